@@ -1,0 +1,13 @@
+pub mod Text
+pub mod Triples
+pub mod Vocabulary
+pub mod Rules
+pub mod ListSets
+pub mod Containers
+pub mod Start
+pub mod Table
+pub mod Closure
+pub mod Run
+pub mod Rows
+pub mod Batch
+pub mod Cases

@@ -1,0 +1,28 @@
+-- Triples and findings as rows of numbers, as load, store and findings hold them. From document 01, 'Results and the twelve
+-- stops': 3 numbers per triple, 5 per record, "strictly ascending, then zeros". Assumes nothing.
+use mathlib.Core.List.{List, [], _∷_, _++_}
+use Prim.Native.Nat.{ℕ, _-_}
+use lib.ListN.{length, replicate}
+use Rattle.common.specs.Triples.{Triple, triple, Finding}
+
+abbrev pub flat : List Triple → List ℕ
+flat [] = []
+flat (t ∷ ts) = t .s ∷ t .p ∷ t .o ∷ flat ts
+
+abbrev pub flat-findings : List Finding → List ℕ
+flat-findings [] = []
+flat-findings (x ∷ xs) = x .check ∷ x .a ∷ x .b ∷ x .c ∷ x .d ∷ flat-findings xs
+
+-- the triples that a row of numbers holds
+abbrev pub triples : List ℕ → List Triple
+triples [] = []
+triples (a ∷ []) = []
+triples (a ∷ b ∷ []) = []
+triples (a ∷ b ∷ c ∷ r) = triple a b c ∷ triples r
+
+-- a buffer of the same length that holds the row, then zeros
+abbrev pub filled : List ℕ → List ℕ → List ℕ
+filled buffer row = row ++ replicate (length buffer - length row) 0
+
+abbrev pub zeros : List ℕ → List ℕ
+zeros buffer = replicate (length buffer) 0
