@@ -10,4 +10,5 @@ pub mod Closure
 pub mod Run
 pub mod Rows
 pub mod Batch
+pub mod Values
 pub mod Cases
