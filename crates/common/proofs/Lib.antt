@@ -9,4 +9,6 @@ pub mod Start
 pub mod LoadClosure
 pub mod Batch
 pub mod Run
+pub mod Ids
+pub mod Rows
 pub mod Cases
