@@ -1,15 +1,16 @@
 -- Demand 3's batching at the level of closures: a load's answer may stand for the load. Assumes nothing.
 use mathlib.Core.Path.{_≡_, refl, sym, subst}
+use mathlib.Core.Bool.{Bool, true, false}
 use mathlib.Core.Logic.{_⊎_, inl, inr}
 use mathlib.Core.List.{List, [], _∷_, _++_}
 use Prim.Native.Nat.{ℕ, suc, _≤_}
 use lib.Dec.{T}
 use lib.ListN.{length}
-use Rattle.common.specs.Triples.{Triple, triple, In, here, if}
+use Rattle.common.specs.Triples.{Triple, triple, In, here, if, concat-map, key-triple, Ascending}
 use Rattle.common.specs.Containers.{Containers}
 use Rattle.common.specs.Start.{axioms-of, axioms, base, start}
 use Rattle.common.specs.Table.{graph-of}
-use Rattle.common.specs.Closure.{Sub, closure, no-zero, without-zero}
+use Rattle.common.specs.Closure.{Sub, no-zero, without-zero, closure}
 use Rattle.common.specs.Batch.{IsList}
 use Rattle.common.proofs.Lists.{in-nil, in-cons, in-left, in-right, in-cases, in-concat→, in-concat←, in-if→, in-if←}
 use Rattle.common.proofs.Start.{start-load, start-base, start-axiom, start→}
@@ -122,6 +123,16 @@ in-without-zero→ ts t h =
 pub in-without-zero← : (ts : List Triple) (t : Triple) → In t ts → T (no-zero t) → In t (without-zero ts)
 unfolding without-zero
 in-without-zero← ts t i e = in-concat← (λ t. if (no-zero t) (λ _. t ∷ []) (λ _. [])) i (in-if← (no-zero t) (λ _. t ∷ []) e (here refl))
+
+-- taking triples out leaves the rest ascending
+pub without-zero-ascending : (ts : List Triple) → Ascending key-triple ts → Ascending key-triple (without-zero ts)
+unfolding without-zero
+without-zero-ascending [] a = tt
+without-zero-ascending (t ∷ ts) a = go (no-zero t) (without-zero-ascending ts (a .1))
+  where
+    go : (b : Bool) → Ascending key-triple (concat-map ts (λ t. if (no-zero t) (λ _. t ∷ []) (λ _. []))) → Ascending key-triple ((if b (λ _. t ∷ []) (λ _. [])) ++ concat-map ts (λ t. if (no-zero t) (λ _. t ∷ []) (λ _. [])))
+    go true h = (λ y i. a .0 y (in-without-zero→ ts y i .0), h)
+    go false h = h
 
 pub answer-batch : (c : Containers) (n : ℕ) (A B : List Triple) → Complete c n A
     → ((t : Triple) → In t A → T (no-zero t))

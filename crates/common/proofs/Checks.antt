@@ -7,7 +7,7 @@ use Rattle.common.specs.Triples.{Triple, Finding, finding, In, key-findi
 use Rattle.common.specs.Vocabulary.{type}
 use Rattle.common.specs.Rules.{Graph, ListSets, Found, cax-dw, prp-irp, prp-asyp, prp-pdw, cls-nothing2}
 use Rattle.common.specs.Table.{checks, consequences, Follows, graph-of, sets-of}
-use Rattle.common.specs.Closure.{findings}
+use Rattle.common.specs.Closure.{Sub, findings}
 use Rattle.common.proofs.Lists.{in-nil}
 use Rattle.common.proofs.Order.{in-insert-all→, in-insert-all-new, ascending-insert-all, finding-tells}
 use Rattle.common.proofs.Table.{follows→, follows←}
@@ -81,3 +81,11 @@ findings→ ts {x} h = go (in-insert-all→ key-finding finding-tells (consequen
 pub findings← : (ts : List Triple) {n a b c d : ℕ} → Found (graph-of ts) n a b c d → In (finding n a b c d) (findings ts)
 unfolding findings insert-all
 findings← ts {n} {a} {b} {c} {d} h = in-insert-all-new key-finding finding-tells (consequences checks (λ l. []) ts) [] (follows← checks ts (λ l. []) (finding n a b c d) (found→table (graph-of ts) (sets-of (λ l. [])) h))
+
+-- a larger set has no fewer findings
+pub found-up : {S S′ : Graph} → Sub S S′ → {n a b c d : ℕ} → Found S n a b c d → Found S′ n a b c d
+found-up f (cax-dw h j k n) = cax-dw (f _ _ _ h) (f _ _ _ j) (f _ _ _ k) n
+found-up f (prp-irp h j n) = prp-irp (f _ _ _ h) (f _ _ _ j) n
+found-up f (prp-asyp h j k l m n) = prp-asyp (f _ _ _ h) (f _ _ _ j) (f _ _ _ k) l m n
+found-up f (prp-pdw h j k l m n o) = prp-pdw (f _ _ _ h) (f _ _ _ j) (f _ _ _ k) l m n o
+found-up f (cls-nothing2 h n) = cls-nothing2 (f _ _ _ h) n

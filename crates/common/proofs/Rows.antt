@@ -9,8 +9,8 @@ use lib.Seq.{take-at}
 use Rattle.common.specs.Triples.{Triple, Finding, In, here, there, if}
 use Rattle.common.specs.Rules.{Graph, Found, cax-dw, prp-irp, prp-asyp, prp-pdw, cls-nothing2}
 use Rattle.common.specs.Table.{graph-of}
-use Rattle.common.specs.Closure.{findings, count-of, five-counts}
-use Rattle.common.specs.Rows.{flat, flat-findings, triples, filled}
+use Rattle.common.specs.Closure.{findings, count-of, five-counts, total}
+use Rattle.common.specs.Rows.{flat, flat-findings, triples, findings-of, filled}
 use Rattle.common.proofs.Checks.{findings→}
 
 -- what was laid out is read back
@@ -18,6 +18,10 @@ pub triples-flat : (ts us : List Triple) → triples (flat ts ++ flat us) ≡ ts
 triples-flat [] [] = refl
 triples-flat [] (u ∷ us) = ap (λ l. u ∷ l) (triples-flat [] us)
 triples-flat (t ∷ ts) us = ap (λ l. t ∷ l) (triples-flat ts us)
+
+pub findings-flat : (fs : List Finding) → findings-of (flat-findings fs) ≡ fs
+findings-flat [] = refl
+findings-flat (x ∷ xs) = ap (λ l. x ∷ l) (findings-flat xs)
 
 pub length-flat : (ts : List Triple) → length (flat ts) ≡ 3 * length ts
 length-flat [] = refl
@@ -37,6 +41,11 @@ triples-filled buffer ts =
     ap triples (take-at (flat ts) (replicate (length buffer - length (flat ts)) 0) (3 * length ts) (length-flat ts))
     ∙ (ap triples (sym (append-nil (flat ts))) ∙ (triples-flat ts [] ∙ append-nil ts))
 
+-- the findings that a filled buffer holds, by their number
+pub findings-filled : (buffer : List ℕ) (fs : List Finding) → findings-of (take (5 * length fs) (filled buffer (flat-findings fs))) ≡ fs
+findings-filled buffer fs =
+    ap findings-of (take-at (flat-findings fs) (replicate (length buffer - length (flat-findings fs)) 0) (5 * length fs) (length-flat-findings fs)) ∙ findings-flat fs
+
 -- a finding is of one of the five checks
 pub found-check : {S : Graph} {n a b c d : ℕ} → Found S n a b c d → (1 ≤ n) × (n ≤ 5)
 found-check (cax-dw h j k n) = (omega arith, omega arith)
@@ -44,10 +53,6 @@ found-check (prp-irp h j n) = (omega arith, omega arith)
 found-check (prp-asyp h j k l m n) = (omega arith, omega arith)
 found-check (prp-pdw h j k l m n o) = (omega arith, omega arith)
 found-check (cls-nothing2 h n) = (omega arith, omega arith)
-
-abbrev pub total : List ℕ → ℕ
-total [] = 0
-total (n ∷ ns) = n + total ns
 
 -- THE FIVE COUNTS add up to the number of findings
 pub total-five : (fs : List Finding) → ((x : Finding) → In x fs → (1 ≤ x .check) × (x .check ≤ 5)) → total (five-counts fs) ≡ length fs

@@ -3,7 +3,7 @@
 use mathlib.Core.List.{List, [], _∷_, _++_}
 use Prim.Native.Nat.{ℕ, _-_}
 use lib.ListN.{length, replicate}
-use Rattle.common.specs.Triples.{Triple, triple, Finding}
+use Rattle.common.specs.Triples.{Triple, triple, Finding, finding}
 
 abbrev pub flat : List Triple → List ℕ
 flat [] = []
@@ -19,6 +19,15 @@ triples [] = []
 triples (a ∷ []) = []
 triples (a ∷ b ∷ []) = []
 triples (a ∷ b ∷ c ∷ r) = triple a b c ∷ triples r
+
+-- the findings that a row of numbers holds
+abbrev pub findings-of : List ℕ → List Finding
+findings-of [] = []
+findings-of (a ∷ []) = []
+findings-of (a ∷ b ∷ []) = []
+findings-of (a ∷ b ∷ c ∷ []) = []
+findings-of (a ∷ b ∷ c ∷ d ∷ []) = []
+findings-of (a ∷ b ∷ c ∷ d ∷ e ∷ r) = finding a b c d e ∷ findings-of r
 
 -- a buffer of the same length that holds the row, then zeros
 abbrev pub filled : List ℕ → List ℕ → List ℕ

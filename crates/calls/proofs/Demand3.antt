@@ -1,0 +1,117 @@
+-- DEMAND 3, proved: every list of calls from what an accepted start leaves. Assumes nothing.
+use mathlib.Core.Path.{_≡_, sym, _∙_, ap, subst}
+use mathlib.Core.List.{List, _++_}
+use Prim.Native.Nat.{ℕ, suc, _*_, _/_}
+use lib.ListN.{length, take}
+use Rattle.common.specs.Triples.{Triple, triple, Finding, finding, In, key-triple, key-finding, Ascending}
+use Rattle.common.specs.Rules.{Graph}
+use Rattle.common.specs.Containers.{Containers}
+use Rattle.common.specs.Table.{gives, graph-of}
+use Rattle.common.specs.Closure.{Sub, IsClosure, closure, findings, five-counts, total}
+use Rattle.common.specs.Run.{accepted, run}
+use Rattle.common.specs.Rows.{flat, flat-findings, triples, findings-of, filled}
+use Rattle.common.specs.Batch.{Same, Conditions}
+use Rattle.common.proofs.Checks.{findings-ascending, findings→, findings←, found-up}
+use Rattle.common.proofs.LoadClosure.{Closure, complete→, computed→, closure-ascending, fits→complete, closure-is}
+use Rattle.common.proofs.Batch.{in-without-zero→, in-without-zero←, without-zero-ascending}
+use Rattle.common.proofs.Run.{accepted→, same-swap, same-sub, batch-law}
+use Rattle.common.proofs.Rows.{triples-filled, findings-filled, total-findings}
+use Rattle.index.specs.Terms.{Term, start-terms}
+use Rattle.index.specs.Layout.{decode}
+use Rattle.index.specs.Calls.{start-gives}
+use Rattle.index.proofs.Decoding.{decode-layout}
+use Rattle.reasoner.specs.Run.{Lent, Run-answer, shown, containers, closed}
+use Rattle.calls.specs.Calls.{Call, run-on, run-gave, event, List-left, calls-give, events-of, terms-after}
+use Rattle.calls.specs.Demand3.{answer, found, Agree, Exact, Demand-3}
+use Rattle.calls.proofs.Reckoning.{start-reckoned}
+use Rattle.calls.proofs.Growth.{reading}
+use Rattle.calls.proofs.Unbroken.{events-unbroken}
+
+-- what an accepted run's store and findings hold
+module _ (c : Containers) (b : Lent) (cap fcap : ℕ) (X N : List Triple) (F : List Finding) (n : ℕ) (k : List ℕ) (r : run c cap fcap X ≡ accepted N F n k) where
+  pub answer-shown : answer (shown b (accepted N F n k)) ≡ N
+  answer-shown = ap (λ m. triples (take (3 * m) (filled (b .store) (flat N)))) (accepted→ c cap fcap X N F n k r .count) ∙ triples-filled (b .store) N
+
+  counted : total k ≡ length F
+  counted =
+      let a = accepted→ c cap fcap X N F n k r in
+      ap total (a .counts) ∙ subst (λ G. total (five-counts G) ≡ length G) (sym (a .found)) (total-findings (closure c (suc cap) X))
+
+  pub found-shown : found (shown b (accepted N F n k)) ≡ F
+  found-shown = ap (λ m. findings-of (take (5 * m) (filled (b .findings) (flat-findings F)))) counted ∙ findings-filled (b .findings) F
+
+  -- a load Y with the same triples has the same closure
+  module _ (Y : List Triple) (s : Same X Y) (C : Graph) (h : IsClosure c Y C) where
+    into : Sub (graph-of (closure c (suc cap) X)) C
+    into x y z i = closure-is c Y .least C (h .holds) (h .closed) x y z (same-sub c X Y s x y z (computed→ c (suc cap) X x y z i))
+
+    back : Sub C (graph-of (closure c (suc cap) X))
+    back x y z i =
+        complete→ c (suc cap) X (fits→complete c cap X (accepted→ c cap fcap X N F n k r .fits)) x y z
+        (same-sub c Y X (same-swap s) x y z (h .least (Closure c Y) (closure-is c Y .holds) (closure-is c Y .closed) x y z i))
+
+  pub exact : (Y : List Triple) → Same X Y → Exact c Y (shown b (accepted N F n k))
+  exact Y s =
+      let a = accepted→ c cap fcap X N F n k r in
+      let e = answer-shown ∙ a .answer in
+      let f = found-shown ∙ a .found in
+      record {
+        ascending = subst (Ascending key-triple) (sym e) (without-zero-ascending (closure c (suc cap) X) (closure-ascending c (suc cap) X));
+        sound = λ C h x y z i. let (j, g) = in-without-zero→ (closure c (suc cap) X) (triple x y z) (subst (In (triple x y z)) e i) in (into Y s C h x y z j, g);
+        complete = λ C h x y z i g. subst (In (triple x y z)) (sym e) (in-without-zero← (closure c (suc cap) X) (triple x y z) (back Y s C h x y z i) g);
+        findings-ascending = subst (Ascending key-finding) (sym f) (findings-ascending (closure c (suc cap) X));
+        findings-sound = λ C h m x y z w i. found-up (into Y s C h) (findings→ (closure c (suc cap) X) (subst (In (finding m x y z w)) f i));
+        findings-complete = λ C h m x y z w i. subst (In (finding m x y z w)) (sym f) (findings← (closure c (suc cap) X) (found-up (back Y s C h) i));
+        count = a .count ∙ ap length (sym answer-shown);
+        counts = a .counts ∙ ap five-counts (sym found-shown);
+      }
+
+-- three accepted runs of a list, read with the terms of its end
+batches : (tl al : ℕ) (ts : List Term) (cs : List Call) (b₁ b₂ b₃ : Lent) (o₁ o₂ o₃ : Run-answer)
+    → In (event (run-on b₁) (run-gave o₁)) (events-of tl al ts cs) → In (event (run-on b₂) (run-gave o₂)) (events-of tl al ts cs) → In (event (run-on b₃) (run-gave o₃)) (events-of tl al ts cs)
+    → o₁ .number ≡ 0 → o₂ .number ≡ 0 → o₃ .number ≡ 0
+    → (A B : List Triple) → Same (triples (b₁ .load)) A → Same (triples (b₂ .load)) (answer o₁ ++ B) → Same (triples (b₃ .load)) (A ++ B)
+    → Conditions (containers (terms-after tl al ts cs) .is) A B (answer o₁) → Agree o₂ o₃ × Exact (containers (terms-after tl al ts cs)) (A ++ B) o₃
+batches tl al ts cs b₁ b₂ b₃ o₁ o₂ o₃ i₁ i₂ i₃ n₁ n₂ n₃ A B s₁ s₂ s₃ h =
+    let r₁ = reading tl al ts cs b₁ o₁ i₁ n₁ in
+    let r₂ = reading tl al ts cs b₂ o₂ i₂ n₂ in
+    let r₃ = reading tl al ts cs b₃ o₃ i₃ n₃ in
+    let c = containers (terms-after tl al ts cs) in
+    let x₁ = length (b₁ .store) / 3 in
+    let x₂ = length (b₂ .store) / 3 in
+    let x₃ = length (b₃ .store) / 3 in
+    let y₁ = length (b₁ .findings) / 5 in
+    let y₂ = length (b₂ .findings) / 5 in
+    let y₃ = length (b₃ .findings) / 5 in
+    let q : answer o₁ ≡ r₁ .answer = ap answer (r₁ .gives) ∙ answer-shown c b₁ x₁ y₁ (triples (b₁ .load)) (r₁ .answer) (r₁ .row) (r₁ .n) (r₁ .k) (r₁ .runs) in
+    let a₂ = ap answer (r₂ .gives) ∙ answer-shown c b₂ x₂ y₂ (triples (b₂ .load)) (r₂ .answer) (r₂ .row) (r₂ .n) (r₂ .k) (r₂ .runs) in
+    let a₃ = ap answer (r₃ .gives) ∙ answer-shown c b₃ x₃ y₃ (triples (b₃ .load)) (r₃ .answer) (r₃ .row) (r₃ .n) (r₃ .k) (r₃ .runs) in
+    let f₂ = ap found (r₂ .gives) ∙ found-shown c b₂ x₂ y₂ (triples (b₂ .load)) (r₂ .answer) (r₂ .row) (r₂ .n) (r₂ .k) (r₂ .runs) in
+    let f₃ = ap found (r₃ .gives) ∙ found-shown c b₃ x₃ y₃ (triples (b₃ .load)) (r₃ .answer) (r₃ .row) (r₃ .n) (r₃ .k) (r₃ .runs) in
+    let (e, f, g, k) = batch-law c A B (triples (b₁ .load)) (triples (b₂ .load)) (triples (b₃ .load)) x₁ y₁ x₂ y₂ x₃ y₃
+    (r₁ .answer) (r₂ .answer) (r₃ .answer) (r₁ .row) (r₂ .row) (r₃ .row) (r₁ .n) (r₂ .n) (r₃ .n) (r₁ .k) (r₂ .k) (r₃ .k) (r₁ .runs) (r₂ .runs) (r₃ .runs)
+    s₁ (subst (λ N. Same (triples (b₂ .load)) (N ++ B)) q s₂) s₃ (r₁ .clean) (subst (Conditions (c .is) A B) q h) in (
+      record {
+        same-triples = a₂ ∙ (e ∙ sym a₃);
+        same-findings = f₂ ∙ (f ∙ sym f₃);
+        same-count = ap (λ (o : Run-answer). o .count) (r₂ .gives) ∙ (g ∙ sym (ap (λ (o : Run-answer). o .count) (r₃ .gives)));
+        same-counts = ap (λ (o : Run-answer). o .counts) (r₂ .gives) ∙ (k ∙ sym (ap (λ (o : Run-answer). o .counts) (r₃ .gives)));
+      },
+      subst (Exact c (A ++ B)) (sym (r₃ .gives)) (exact c b₃ x₃ y₃ (triples (b₃ .load)) (r₃ .answer) (r₃ .row) (r₃ .n) (r₃ .k) (r₃ .runs) (A ++ B) s₃),
+    )
+
+pub demand-3 : (table arena : List ℕ) → start-gives table arena .number ≡ 0 → (cs : List Call) → Demand-3 table arena cs
+demand-3 table arena s cs =
+    let tl = length table in
+    let al = length arena in
+    let e = start-reckoned table arena cs s in
+    let f : calls-give (start-gives table arena .contents) cs .events ≡ events-of tl al start-terms cs = ap (λ (l : List-left). l .events) e in
+    let g : decode (calls-give (start-gives table arena .contents) cs .contents) ≡ terms-after tl al start-terms cs = ap (λ (l : List-left). decode (l .contents)) e ∙ decode-layout tl al (terms-after tl al start-terms cs) in
+    record {
+      each = e;
+      unbroken = λ v i. events-unbroken tl al start-terms cs v (subst (In v) f i);
+      batch = λ b₁ b₂ b₃ o₁ o₂ o₃ i₁ i₂ i₃ n₁ n₂ n₃ A B s₁ s₂ s₃ h.
+          subst (λ (ws : List Term). Agree o₂ o₃ × Exact (containers ws) (A ++ B) o₃) (sym g)
+          (batches tl al start-terms cs b₁ b₂ b₃ o₁ o₂ o₃ (subst (In (event (run-on b₁) (run-gave o₁))) f i₁) (subst (In (event (run-on b₂) (run-gave o₂))) f i₂) (subst (In (event (run-on b₃) (run-gave o₃))) f i₃)
+          n₁ n₂ n₃ A B s₁ s₂ s₃ (subst (λ (ws : List Term). Conditions (containers ws .is) A B (answer o₁)) g h));
+    }

@@ -1,0 +1,78 @@
+-- Lists of calls: each put, lookup and run is lent the dictionary as the call before left it. What each gives over contents, and what
+-- it must give, reckoned from the lengths of table and arena and the calls' other arguments alone. From document 01, 'Demand 3's list
+-- of calls'. A call added later that is lent the dictionary is one more constructor of `Call`, and a line in each definition. Assumes
+-- nothing.
+use mathlib.Core.List.{List, [], _∷_}
+use Prim.Native.Nat.{ℕ}
+use Rattle.index.specs.Terms.{Term}
+use Rattle.index.specs.Layout.{Dict}
+use Rattle.index.specs.Dictionary.{Lookup-answer, reckon-put, reckon-lookup}
+use Rattle.index.specs.Calls.{put-gives, lookup-gives}
+use Rattle.reasoner.specs.Run.{Lent, Run-answer, reckon-run, run-gives}
+
+-- a call, with what it is lent besides the dictionary
+pub data Call : Type 0 where
+  put : Term → Call
+  lookup : ℕ → Call
+  run-on : Lent → Call
+
+-- what it gives, and leaves in what it was lent besides the dictionary: a put its number and id
+pub data Out : Type 0 where
+  put-gave : ℕ → ℕ → Out
+  lookup-gave : Lookup-answer → Out
+  run-gave : Run-answer → Out
+
+-- OVER CONTENTS: what the contracts of put, lookup and run promise
+pub record Left : Type 0 where
+  pub out : Out
+  pub contents : Dict
+
+unfoldable pub call-gives : Dict → Call → Left
+call-gives d (put t) = let a = put-gives d t in record { out = put-gave (a .number) (a .id); contents = a .contents }
+call-gives d (lookup i) = record { out = lookup-gave (lookup-gives d i); contents = d }
+call-gives d (run-on b) = let a = run-gives d b in record { out = run-gave (a .answer); contents = a .contents }
+
+-- RECKONED from the terms held: "urn:_, the start's, then each new one that an accepted put, or a run that passes 7, brings, in order"
+pub record Reckoned : Type 0 where
+  pub out : Out
+  pub held : List Term
+
+unfoldable pub reckon : ℕ → ℕ → List Term → Call → Reckoned
+reckon tl al ts (put t) = let p = reckon-put tl al ts t in record { out = put-gave (p .number) (p .id); held = p .held }
+reckon tl al ts (lookup i) = record { out = lookup-gave (reckon-lookup ts i); held = ts }
+reckon tl al ts (run-on b) = let r = reckon-run tl al ts b in record { out = run-gave (r .answer); held = r .held }
+
+-- a call and what it gave
+pub record Event : Type 0 where
+  pub call : Call
+  pub out : Out
+
+abbrev pub event : Call → Out → Event
+event c o = record { call = c; out = o }
+
+-- A LIST OF CALLS over contents: what each gave, and the contents at the end; a refused call stays in the list
+pub record List-left : Type 0 where
+  pub events : List Event
+  pub contents : Dict
+
+unfoldable pub calls-give : Dict → List Call → List-left
+calls-give d [] = record { events = []; contents = d }
+calls-give d (c ∷ cs) =
+    let l = call-gives d c in
+    let r = calls-give (l .contents) cs in
+    record { events = event c (l .out) ∷ r .events; contents = r .contents }
+
+-- the same, reckoned: what each must give, and the terms held at the end
+unfoldable pub events-of : ℕ → ℕ → List Term → List Call → List Event
+events-of tl al ts [] = []
+events-of tl al ts (c ∷ cs) = let r = reckon tl al ts c in event c (r .out) ∷ events-of tl al (r .held) cs
+
+unfoldable pub terms-after : ℕ → ℕ → List Term → List Call → List Term
+terms-after tl al ts [] = ts
+terms-after tl al ts (c ∷ cs) = terms-after tl al (reckon tl al ts c .held) cs
+
+-- the number of a call's result
+abbrev pub number-of : Out → ℕ
+number-of (put-gave n i) = n
+number-of (lookup-gave l) = l .number
+number-of (run-gave o) = o .number

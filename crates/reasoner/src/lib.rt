@@ -1,0 +1,1 @@
+// The run of document 01.
