@@ -13,6 +13,7 @@ pub use store::add;
 pub use store::bucket;
 pub use store::contains;
 pub use store::index_row;
+pub use store::position;
 pub use store::put_row;
 pub use store::row;
 pub use store::same;
