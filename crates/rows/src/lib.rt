@@ -1,5 +1,6 @@
 // Rows of numbers in a lent slice: a store of triples with its membership hash, and chains of rows by key.
 pub mod chains; // chains.rt: the rows that have one key, first to last
+pub mod sort; // sort.rt: rows of any width, put in order in place
 pub mod store; // store.rt: rows read, written, compared, looked up and appended
 
 pub use chains::count_of;
@@ -7,6 +8,7 @@ pub use chains::enter;
 pub use chains::head;
 pub use chains::link;
 pub use chains::push;
+pub use sort::sort_rows;
 pub use store::Added;
 pub use store::WIDTH;
 pub use store::add;
