@@ -10,3 +10,5 @@ pub mod Numbers
 pub mod Heap
 pub mod Sifting
 pub mod Ordered
+pub mod Removing
+pub mod Filled

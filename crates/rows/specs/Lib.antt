@@ -4,3 +4,4 @@ pub mod Store
 pub mod Order
 pub mod Sorted
 pub mod Heap
+pub mod Answer
