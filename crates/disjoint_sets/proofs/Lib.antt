@@ -1,0 +1,4 @@
+pub mod Roots
+pub mod Hanging
+pub mod Loops
+pub mod Uniting
