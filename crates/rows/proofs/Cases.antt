@@ -1,0 +1,23 @@
+-- Cases of numbers and answers. Assumes nothing.
+use mathlib.Core.Path.{_≡_}
+use mathlib.Core.Logic.{_⊎_, inl, inr}
+use mathlib.Core.Bool.{true, false}
+use Prim.Native.Nat.{ℕ, _+_, _≤_, _<_}
+use native.Mathlib.Omega.{arith}
+use native.Mathlib.Decide.{decLt, ℕ-discrete}
+
+-- a number is another, or it is not
+pub is-or-not : (a b : ℕ) → (a ≡ b) ⊎ (a ≡ b → ⊥)
+is-or-not a b = elim (ℕ-discrete a b) [ yes e ↦ inl e | no f ↦ inr f ]
+
+-- of two numbers one is at most the other
+pub le-or : (a b : ℕ) → (a ≤ b) ⊎ (b < a)
+le-or a b = elim (decLt b a) [ yes e ↦ inr e | no f ↦ inl (omega arith) ]
+
+-- below the next number: below it, or it
+pub below-or : (i n : ℕ) → i < n + 1 → (i < n) ⊎ (i ≡ n)
+below-or i n h = elim (decLt i n) [ yes e ↦ inl e | no f ↦ inr (omega arith) ]
+
+-- the two answers differ
+pub true-false : {A : Type 0} → true ≡ false → A
+true-false e = absurd (let z : _≡_ {A = ℕ} 0 1 = cc in omega arith)
