@@ -4,11 +4,12 @@ use mathlib.Core.Logic.{_⊎_, inl, inr}
 use mathlib.Core.List.{List}
 use Prim.Native.Nat.{ℕ, _+_, _^_, _≤_, _<_}
 use native.Mathlib.Omega.{arith}
-use lib.ListN.{length, getD, set, length-set}
+use lib.ListN.{length, set, length-set}
 use lib.Seq.{getD-set-same, getD-set-other}
-use Rattle.disjoint_sets.specs.Places.{place-of, id-of, IsPlace, PlaceIn, Room, Word}
+use Rattle.rows.proofs.Cases.{is-or-not}
+use Rattle.disjoint_sets.specs.Places.{place-of, id-of, IsPlace, PlaceIn, TermRoom, Word}
 use Rattle.disjoint_sets.specs.Forest.{parent, Forest, root-of, SameRoots, Rooted, Alone, root-word, RootsBelow, Settled}
-use Rattle.disjoint_sets.proofs.Roots.{is-or-not, root-fixed, root-step, root-low, root-place, parent-in, roots-alike, roots-none, roots-on}
+use Rattle.disjoint_sets.proofs.Roots.{root-fixed, root-low, root-place, root-step, parent-in, roots-alike, roots-none, roots-on}
 use Rattle.disjoint_sets.proofs.Hanging.{forest-set, halve}
 
 -- find, at the place at: the roots are those of l₀, and at has the root of p
@@ -65,7 +66,7 @@ pub record Counting (terms x : ℕ) (l₀ l : List ℕ) : Type 0 where
 pub counting-start : {terms : ℕ} {l : List ℕ} → Forest l → Counting terms 0 l l
 counting-start f = record { same-length = refl; forest = f; bound = omega arith; own = λ y h. absurd (omega arith) }
 
-pub counting-step : {terms x p : ℕ} {l₀ l m : List ℕ} → Room terms l₀ → Counting terms x l₀ l → x < terms → p ≡ place-of x → m ≡ set l p p → Counting terms (x + 1) l₀ m
+pub counting-step : {terms x p : ℕ} {l₀ l m : List ℕ} → TermRoom terms l₀ → Counting terms x l₀ l → x < terms → p ≡ place-of x → m ≡ set l p p → Counting terms (x + 1) l₀ m
 counting-step {terms} {x} {p} {l₀} {l} {m} r v h e d =
     subst (Counting terms (x + 1) l₀) (sym (d ∙ ap (λ k. set l k k) e))
     (record {
@@ -82,11 +83,15 @@ counting-step {terms} {x} {p} {l₀} {l} {m} r v h e d =
     go y i (inl q) = subst (λ k. parent (set l (place-of x) (place-of x)) (place-of k) ≡ place-of k) (sym q) (getD-set-same l (place-of x) (place-of x) 0 inside)
     go y i (inr n) = getD-set-other l (place-of x) (place-of y) (place-of x) 0 (λ q. n (omega arith)) ∙ v .own y (omega arith)
 
-pub counting-end : {terms x : ℕ} {l₀ l : List ℕ} → Counting terms x l₀ l → terms ≤ x → Alone terms l₀ l
-counting-end {l = l} v h = record { same-length = v .same-length; forest = v .forest; roots = λ y i. root-fixed l (place-of y) (v .own y (omega arith)) }
+pub counting-end : {terms x : ℕ} {l₀ l : List ℕ} → Counting terms x l₀ l → terms ≤ x → Alone terms l
+counting-end {l = l} v h = record { forest = v .forest; roots = λ y i. root-fixed l (place-of y) (v .own y (omega arith)) }
+
+-- a buffer as long has room as well
+pub room-kept : {terms : ℕ} {l m : List ℕ} → length m ≡ length l → TermRoom terms l → TermRoom terms m
+room-kept e r = record { long = omega (arith, r .long); few = r .few }
 
 -- a term's place is a place in the buffer
-pub place-in : {terms x : ℕ} {l : List ℕ} → Room terms l → x < terms → PlaceIn l (place-of x)
+pub place-in : {terms x : ℕ} {l : List ℕ} → TermRoom terms l → x < terms → PlaceIn l (place-of x)
 place-in r h = record { is-place = omega arith; within = omega (arith, r .long); small = omega (arith, r .few) }
 
 -- the root of a place, from its parent's
@@ -115,9 +120,9 @@ pub record Settling (terms x : ℕ) (l₀ l : List ℕ) : Type 0 where
 pub settling-start : {terms : ℕ} {l : List ℕ} → Forest l → Settling terms 0 l l
 settling-start f = record { same-length = refl; forest = f; bound = omega arith; parents = λ q h. refl; roots = λ y h. absurd (omega arith) }
 
-module _ {terms x p : ℕ} {l₀ l : List ℕ} (room : Room terms l₀) (f₀ : Forest l₀) (v : Settling terms x l₀ l) (h : x < terms) (e : p ≡ place-of x) where
+module _ {terms x p : ℕ} {l₀ l : List ℕ} (room : TermRoom terms l₀) (f₀ : Forest l₀) (v : Settling terms x l₀ l) (h : x < terms) (e : p ≡ place-of x) where
   inside : PlaceIn l (place-of x)
-  inside = place-in (record { long = omega (arith, room .long, v .same-length); few = room .few }) h
+  inside = place-in (room-kept (v .same-length) room) h
 
   -- what root_from requires
   pub settling-ready : RootsBelow l p
@@ -157,4 +162,4 @@ module _ {terms x p : ℕ} {l₀ l : List ℕ} (room : Room terms l₀) (f₀ : 
     settling-step d = subst (Settling terms (x + 1) l₀) (sym (d ∙ ap (λ k. set l (k + 1) r) e)) step
 
 pub settling-end : {terms x : ℕ} {l₀ l : List ℕ} → Settling terms x l₀ l → terms ≤ x → Settled terms l₀ l
-settling-end v h = record { same-length = v .same-length; roots = λ y i. v .roots y (omega arith) }
+settling-end v h = record { roots = λ y i. v .roots y (omega arith) }

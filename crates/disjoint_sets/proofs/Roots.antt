@@ -4,15 +4,11 @@ use mathlib.Core.Logic.{_⊎_, inl, inr}
 use mathlib.Core.List.{List}
 use Prim.Native.Nat.{ℕ, zero, suc, _≤_, _<_}
 use native.Mathlib.Omega.{arith}
-use native.Mathlib.Decide.{ℕ-discrete}
 use native.Mathlib.Nat.{not-suc-le-zero}
-use lib.ListN.{length}
+use Rattle.rows.proofs.Cases.{is-or-not}
+use Rattle.common.specs.Table.{on}
 use Rattle.disjoint_sets.specs.Places.{IsPlace, PlaceIn}
 use Rattle.disjoint_sets.specs.Forest.{parent, Forest, climb, root-of, SameRoots}
-
--- a number is another, or it is not
-pub is-or-not : (a b : ℕ) → (a ≡ b) ⊎ (a ≡ b → ⊥)
-is-or-not a b = elim (ℕ-discrete a b) [ yes e ↦ inl e | no f ↦ inr f ]
 
 climb-end : (k : ℕ) (l : List ℕ) (p : ℕ) → climb (suc k) l p ≡ parent l (climb k l p)
 unfolding climb

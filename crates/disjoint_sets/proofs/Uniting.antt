@@ -1,15 +1,16 @@
 -- Laws of union: after two finds, the later root is hung under the earlier one. Assumes nothing.
-use mathlib.Core.Path.{_≡_, refl, sym, _∙_, ap, subst}
+use mathlib.Core.Path.{_≡_, sym, _∙_, ap, subst}
 use mathlib.Core.Logic.{_⊎_, inl, inr}
 use mathlib.Core.List.{List}
-use Prim.Native.Nat.{ℕ, _+_, _≤_, _<_}
+use Prim.Native.Nat.{ℕ, _≤_, _<_}
 use native.Mathlib.Omega.{arith}
-use lib.ListN.{length, set, length-set}
+use lib.ListN.{set, length-set}
 use lib.Seq.{set-getD}
+use Rattle.rows.proofs.Cases.{is-or-not}
 use Rattle.common.specs.ListSets.{merge}
 use Rattle.disjoint_sets.specs.Places.{IsPlace, PlaceIn}
 use Rattle.disjoint_sets.specs.Forest.{parent, Forest, root-of, SameRoots, Rooted, United}
-use Rattle.disjoint_sets.proofs.Roots.{is-or-not, root-is, root-low, root-place, roots-on}
+use Rattle.disjoint_sets.proofs.Roots.{root-is, root-low, root-place, roots-on}
 use Rattle.disjoint_sets.proofs.Hanging.{merge-same, hang-forest, hang-roots}
 
 -- a find leaves a place a place

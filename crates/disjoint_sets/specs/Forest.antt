@@ -6,7 +6,7 @@ use mathlib.Core.List.{List}
 use Prim.Native.Nat.{ℕ, zero, suc, _+_, _≤_, _<_}
 use lib.ListN.{length, getD}
 use Rattle.common.specs.ListSets.{merge}
-use Rattle.disjoint_sets.specs.Places.{place-of, id-of, IsPlace, PlaceIn}
+use Rattle.disjoint_sets.specs.Places.{place-of, IsPlace, PlaceIn}
 
 -- the place of the parent
 abbrev pub parent : List ℕ → ℕ → ℕ
@@ -38,8 +38,7 @@ pub record Rooted (p r : ℕ) (l m : List ℕ) : Type 0 where
   pub kept : SameRoots l m
 
 -- each of the terms is the root of a group of its own
-pub record Alone (terms : ℕ) (l m : List ℕ) : Type 0 where
-  pub same-length : length m ≡ length l
+pub record Alone (terms : ℕ) (m : List ℕ) : Type 0 where
   pub forest : Forest m
   pub roots : (x : ℕ) → x < terms → root-of m (place-of x) ≡ place-of x
 
@@ -64,9 +63,4 @@ pub record RootsBelow (l : List ℕ) (p : ℕ) : Type 0 where
 
 -- the second number of each term is the place of its root in l
 pub record Settled (terms : ℕ) (l m : List ℕ) : Type 0 where
-  pub same-length : length m ≡ length l
   pub roots : (x : ℕ) → x < terms → root-word m (place-of x) ≡ root-of l (place-of x)
-
--- the id that stands for the group of x, once the roots are written
-abbrev pub head-of : List ℕ → ℕ → ℕ
-head-of l x = id-of (root-word l (place-of x))

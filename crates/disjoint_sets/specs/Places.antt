@@ -24,7 +24,7 @@ pub record PlaceIn (l : List ℕ) (p : ℕ) : Type 0 where
   pub small : p < 2 ^ 32
 
 -- "2 numbers for each term", and no more terms than a dictionary holds
-pub record Room (terms : ℕ) (l : List ℕ) : Type 0 where
+pub record TermRoom (terms : ℕ) (l : List ℕ) : Type 0 where
   pub long : 2 * terms ≤ length l
   pub few : terms ≤ 65535
 

@@ -3,8 +3,8 @@ use native.Mathlib.Omega.{arith}
 use Prim.Native.Nat.{_-_}
 use Rattle.disjoint_sets.proofs.Loops.{Counting, counting-start, counting-step, counting-end}
 use borrow.Author.Needs.{needs}
-use Rattle.disjoint_sets.proofs.alone.Statement.{statement}
-use Rattle.disjoint_sets.proofs.alone.Tie as tie
+use Rattle.disjoint_sets.proofs.union_find.alone.Statement.{statement}
+use Rattle.disjoint_sets.proofs.union_find.alone.Tie as tie
 
 abbrev Inv-loop : tie.InvT-loop
 Inv-loop work₀ terms x₀ work x = Counting terms x work₀ work

@@ -2,8 +2,8 @@
 use native.Mathlib.Omega.{arith}
 use Rattle.disjoint_sets.proofs.Uniting.{found-x, found-y, under-x, under-y}
 use borrow.Author.Needs.{needs}
-use Rattle.disjoint_sets.proofs.union.Statement.{statement}
-use Rattle.disjoint_sets.proofs.union.Tie as tie
+use Rattle.disjoint_sets.proofs.union_find.union.Statement.{statement}
+use Rattle.disjoint_sets.proofs.union_find.union.Tie as tie
 
 find-requires : tie.Need-find-requires
 find-requires c κs = search needs

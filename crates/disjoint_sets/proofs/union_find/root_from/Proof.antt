@@ -1,8 +1,8 @@
 -- `disjoint_sets::root_from` meets its contract. Assumes nothing.
 use native.Mathlib.Omega.{arith}
 use Rattle.disjoint_sets.proofs.Loops.{below-own, below-within, below-parent}
-use Rattle.disjoint_sets.proofs.root_from.Statement.{statement}
-use Rattle.disjoint_sets.proofs.root_from.Tie as tie
+use Rattle.disjoint_sets.proofs.union_find.root_from.Statement.{statement}
+use Rattle.disjoint_sets.proofs.union_find.root_from.Tie as tie
 
 up-requires : tie.Need-up-requires
 up-requires c κs = omega (arith, (c .before .pre .place .within))

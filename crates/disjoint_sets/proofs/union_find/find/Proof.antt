@@ -1,8 +1,8 @@
 -- `disjoint_sets::find` meets its contract. Invariant: the roots are as they were, and `at` has the root of p. Assumes nothing.
 use native.Mathlib.Omega.{arith}
 use Rattle.disjoint_sets.proofs.Loops.{Climbing, climbing-start, climbing-end, climbing-above, climbing-less, climbing-step}
-use Rattle.disjoint_sets.proofs.find.Statement.{statement}
-use Rattle.disjoint_sets.proofs.find.Tie as tie
+use Rattle.disjoint_sets.proofs.union_find.find.Statement.{statement}
+use Rattle.disjoint_sets.proofs.union_find.find.Tie as tie
 
 abbrev Inv-loop : tie.InvT-loop
 Inv-loop work₀ at₀ work at = Climbing (at₀ .0) (at .0) work₀ work

@@ -3,8 +3,8 @@ use native.Mathlib.Omega.{arith}
 use Prim.Native.Nat.{_-_}
 use Rattle.disjoint_sets.proofs.Loops.{Settling, settling-start, settling-ready, settling-small, settling-step, settling-end}
 use borrow.Author.Needs.{needs}
-use Rattle.disjoint_sets.proofs.settle.Statement.{statement}
-use Rattle.disjoint_sets.proofs.settle.Tie as tie
+use Rattle.disjoint_sets.proofs.union_find.settle.Statement.{statement}
+use Rattle.disjoint_sets.proofs.union_find.settle.Tie as tie
 
 abbrev Inv-loop : tie.InvT-loop
 Inv-loop work₀ terms x₀ work x = Settling terms x work₀ work

@@ -3,8 +3,8 @@ use mathlib.Core.Path.{_∙_, ap}
 use Rattle.disjoint_sets.specs.Places.{id-of}
 use Rattle.disjoint_sets.specs.Forest.{root-word}
 use borrow.Author.Needs.{needs}
-use Rattle.disjoint_sets.proofs.realhead.Statement.{statement}
-use Rattle.disjoint_sets.proofs.realhead.Tie as tie
+use Rattle.disjoint_sets.proofs.lists.realhead.Statement.{statement}
+use Rattle.disjoint_sets.proofs.lists.realhead.Tie as tie
 
 uri2idx-requires : tie.Need-uri2idx-requires
 uri2idx-requires c κs = search needs
