@@ -1,6 +1,14 @@
 pub mod Cases
+pub mod Listed
 pub mod Rows
 pub mod Chain
 pub mod Adds
 pub mod Membership
 pub mod Indexes
+pub mod Lex
+pub mod Numbers
+pub mod Heap
+pub mod Sifting
+pub mod Ordered
+pub mod Removing
+pub mod Filled

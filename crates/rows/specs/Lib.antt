@@ -1,3 +1,7 @@
 pub mod Rows
 pub mod Chains
 pub mod Store
+pub mod Order
+pub mod Sorted
+pub mod Heap
+pub mod Answer

@@ -1,0 +1,126 @@
+-- A buffer cleared from a place on, and what stands in it then: rows laid out, then zeros. Assumes nothing.
+use mathlib.Core.Path.{_≡_, refl, sym, ap, ap₂, _∙_}
+use mathlib.Core.Logic.{⊎-elim}
+use mathlib.Core.List.{List, [], _∷_, _++_}
+use Prim.Native.Nat.{ℕ, zero, suc, _+_, _-_, _*_, _≤_, _<_}
+use native.Mathlib.Omega.{arith}
+use native.Mathlib.Numerals.{add-one}
+use native.Mathlib.Nat.{mul-suc}
+use lib.ListN.{length, getD, set, take, drop, replicate, length-set, length-append, length-take, length-replicate, getD-replicate, List·getD-append}
+use lib.Seq.{ext-getD, getD-set-same, getD-set-other, getD-take, getD-append-add, length-take-le, take-add, drop-cons}
+use Rattle.common.specs.Triples.{Triple, Finding, concat-map, key-triple, key-finding, Distinct, insert-all}
+use Rattle.common.specs.Closure.{without-zero}
+use Rattle.common.specs.Rows.{flat, flat-findings, filled}
+use Rattle.rows.specs.Rows.{width, rowAt, listed, rows, findingAt, finding-rows}
+use Rattle.rows.specs.Sorted.{numbers, row-numbers, Sorted}
+use Rattle.rows.specs.Answer.{Kept, cleared, answer-of, DistinctRows, Answer}
+use Rattle.rows.proofs.Cases.{is-or-not, le-or}
+use Rattle.rows.proofs.Listed.{length-listed}
+use Rattle.rows.proofs.Ordered.{triple-key, triples-sorted, finding-key, findings-sorted}
+use Rattle.rows.proofs.Removing.{concat-snoc}
+
+-- the numbers from k to i are zero, and those before k as they were
+pub record Clearing (k : ℕ) (l₀ : List ℕ) (i : ℕ) (l : List ℕ) : Type 0 where
+  pub from : k ≤ i
+  pub same-length : length l ≡ length l₀
+  pub before : (x : ℕ) → x < k → getD l x 0 ≡ getD l₀ x 0
+  pub zero : (x : ℕ) → k ≤ x → x < i → getD l x 0 ≡ 0
+
+pub clearing-start : (k : ℕ) (l : List ℕ) → Clearing k l k l
+clearing-start k l = record { from = omega arith; same-length = refl; before = λ x p. refl; zero = λ x p q. absurd (omega arith) }
+
+pub clearing-step : {k : ℕ} {l₀ : List ℕ} {i : ℕ} {l : List ℕ} → Clearing k l₀ i l → i < length l → Clearing k l₀ (i + 1) (set l i 0)
+clearing-step {k} {l₀} {i} {l} v h = record {
+  from = omega (arith, v .from);
+  same-length = length-set l i 0 ∙ v .same-length;
+  before = λ x p. getD-set-other l i x 0 0 (λ e. omega (arith, v .from)) ∙ v .before x p;
+  zero = λ x p q. ⊎-elim
+      (λ e. ap (λ y. getD (set l i 0) y 0) e ∙ getD-set-same l i 0 0 h)
+      (λ e. getD-set-other l i x 0 0 e ∙ v .zero x p (omega arith))
+      (is-or-not x i);
+}
+
+pub clearing-end : {k : ℕ} {l₀ : List ℕ} {i : ℕ} {l : List ℕ} → Clearing k l₀ i l → length l ≤ i → l ≡ cleared k l₀
+unfolding cleared
+clearing-end {k} {l₀} {i} {l} v h = ext-getD 0 l (take k l₀ ++ replicate (length l₀ - k) 0) long each
+  where
+    long : length l ≡ length (take k l₀ ++ replicate (length l₀ - k) 0)
+    long = v .same-length ∙ simp (length-append, length-take, length-replicate) (omega arith)
+
+    each : (x : ℕ) → x < length l → getD l x 0 ≡ getD (take k l₀ ++ replicate (length l₀ - k) 0) x 0
+    each x p = ⊎-elim late early (le-or k x)
+      where
+        early : x < k → getD l x 0 ≡ getD (take k l₀ ++ replicate (length l₀ - k) 0) x 0
+        early q =
+            let b : x < length (take k l₀) = simp length-take (omega (arith, v .same-length)) in
+            v .before x q ∙ sym (List·getD-append (take k l₀) (replicate (length l₀ - k) 0) 0 x b ∙ getD-take k l₀ x 0 q)
+
+        late : k ≤ x → getD l x 0 ≡ getD (take k l₀ ++ replicate (length l₀ - k) 0) x 0
+        late q =
+            let e = length-take-le k l₀ (omega (arith, v .same-length)) in
+            let f : length (take k l₀) + (x - k) ≡ x = omega arith in
+            let g = getD-append-add (take k l₀) (replicate (length l₀ - k) 0) (x - k) 0 in
+            v .zero x q (omega arith)
+            ∙ sym (ap (λ y. getD (take k l₀ ++ replicate (length l₀ - k) 0) y 0) (sym f) ∙ g ∙ getD-replicate (length l₀ - k) (x - k) 0 0 (omega (arith, v .same-length)))
+
+-- The numbers of a row are a part of the list, and the numbers of all rows its beginning.
+pub numbers-take : (w at : ℕ) (l : List ℕ) → at + w ≤ length l → numbers w at l ≡ take w (drop at l)
+unfolding numbers
+numbers-take zero at l h = refl
+numbers-take (suc w) at l h =
+    ap (λ r. getD l at 0 ∷ r) (numbers-take w (at + 1) l (omega arith) ∙ ap (λ k. take w (drop k l)) (add-one at))
+    ∙ sym (ap (take (suc w)) (drop-cons l at 0 (omega arith)))
+
+pub concat-listed : {A : Type 0} (key : A → List ℕ) (w n : ℕ) (l : List ℕ) (f : ℕ → A) → ((k : ℕ) → key (f k) ≡ row-numbers w l k) → w * n ≤ length l → concat-map (listed n f) key ≡ take (w * n) l
+unfolding listed
+concat-listed key w zero l f kf h =
+    let e : w * 0 ≡ 0 = omega arith in
+    rw e
+concat-listed key w (suc n) l f kf h =
+    let e = mul-suc w n in
+    concat-snoc (listed n f) (f n) key
+    ∙ ap₂ _++_ (concat-listed key w n l f kf (omega arith)) (kf n ∙ numbers-take w (w * n) l (omega arith))
+    ∙ sym (take-add (w * n) w l)
+    ∙ ap (λ k. take k l) (sym e)
+
+pub flat-concat : (ts : List Triple) → flat ts ≡ concat-map ts key-triple
+flat-concat [] = refl
+flat-concat (t ∷ ts) = ap (λ r. t .s ∷ t .p ∷ t .o ∷ r) (flat-concat ts)
+
+pub findings-concat : (xs : List Finding) → flat-findings xs ≡ concat-map xs key-finding
+findings-concat [] = refl
+findings-concat (x ∷ xs) = ap (λ r. x .check ∷ x .a ∷ x .b ∷ x .c ∷ x .d ∷ r) (findings-concat xs)
+
+-- the first n rows of the store, laid out
+pub flat-rows : (n : ℕ) (l : List ℕ) → width * n ≤ length l → flat (rows n l) ≡ take (width * n) l
+flat-rows n l h = flat-concat (rows n l) ∙ concat-listed key-triple width n l (rowAt l) (triple-key l) h
+
+pub flat-finding-rows : (n : ℕ) (l : List ℕ) → 5 * n ≤ length l → flat-findings (finding-rows n l) ≡ take (5 * n) l
+flat-finding-rows n l h = findings-concat (finding-rows n l) ∙ concat-listed key-finding 5 n l (findingAt l) (finding-key l) h
+
+-- a buffer cleared behind what is to stay in it
+pub cleared-filled : (k : ℕ) (l m r : List ℕ) → length m ≡ length l → k ≤ length m → r ≡ take k m → cleared k m ≡ filled l r
+unfolding cleared
+cleared-filled k l m r a b e =
+    let f = ap length e ∙ length-take-le k m b in
+    let g : length m - k ≡ length l - length r = omega arith in
+    ap₂ (λ x y. x ++ replicate y 0) (sym e) g
+
+-- THE STORE AT THE END: sorted, without rows that have a zero id, cleared
+pub answer-left : {n : ℕ} {l l₁ : List ℕ} {k : ℕ} {l₂ l₃ : List ℕ} → DistinctRows n l → Sorted width n l l₁ → Kept n l₁ k l₂ → l₃ ≡ cleared (width * k) l₂ → Answer n l k l₃
+answer-left {n} {l} {l₁} {k} {l₂} {l₃} c s v e = record {
+  count = sym (length-listed k (rowAt l₂)) ∙ ap length list;
+  store = e ∙ cleared-filled (width * k) l l₂ (flat (answer-of n l)) (v .same-length ∙ s .same-length) room (ap flat (sym list) ∙ flat-rows k l₂ room);
+}
+  where
+    list : rows k l₂ ≡ answer-of n l
+    list = v .kept ∙ ap without-zero (triples-sorted n l l₁ s (c .distinct))
+
+    room : width * k ≤ length l₂
+    room = omega (arith, v .few, v .same-length, s .same-length, c .room)
+
+-- THE FINDINGS AT THE END: sorted, cleared
+pub findings-left : {n : ℕ} {l m : List ℕ} → 5 * n ≤ length l → Distinct (finding-rows n l) → Sorted 5 n l m → cleared (5 * n) m ≡ filled l (flat-findings (insert-all key-finding (finding-rows n l) []))
+findings-left {n} {l} {m} h d s =
+    cleared-filled (5 * n) l m (flat-findings (insert-all key-finding (finding-rows n l) [])) (s .same-length) (omega (arith, s .same-length))
+    (ap flat-findings (sym (findings-sorted n l m s d)) ∙ flat-finding-rows n m (omega (arith, s .same-length)))

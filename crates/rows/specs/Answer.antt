@@ -1,0 +1,36 @@
+-- What stands in the store at the end. From document 01: "The answer is its triples without an id 0", and "The store holds the answer,
+-- strictly ascending, then zeros". Assumes nothing.
+use mathlib.Core.Path.{_≡_}
+use mathlib.Core.List.{List, [], _++_}
+use Prim.Native.Nat.{ℕ, _-_, _*_, _≤_, _<_, _^_}
+use lib.ListN.{length, take, drop, replicate}
+use Rattle.common.specs.Triples.{Triple, key-triple, Distinct, insert-all}
+use Rattle.common.specs.Closure.{without-zero}
+use Rattle.common.specs.Rows.{flat, filled}
+use Rattle.rows.specs.Rows.{width, rows}
+
+-- the first k rows of m are the first n rows of l without those that have an id 0; the rows from k to n are free
+pub record Kept (n : ℕ) (l : List ℕ) (k : ℕ) (m : List ℕ) : Type 0 where
+  pub same-length : length m ≡ length l
+  pub few : k ≤ n
+  pub kept : rows k m ≡ without-zero (rows n l)
+  pub rest : drop (width * n) m ≡ drop (width * n) l
+
+-- l with zeros from place k on
+unfoldable pub cleared : ℕ → List ℕ → List ℕ
+cleared k l = take k l ++ replicate (length l - k) 0
+
+-- the answer that n rows give
+abbrev pub answer-of : ℕ → List ℕ → List Triple
+answer-of n l = without-zero (insert-all key-triple (rows n l) [])
+
+-- n rows that hold no triple twice
+pub record DistinctRows (n : ℕ) (l : List ℕ) : Type 0 where
+  pub room : width * n ≤ length l
+  pub few : n < 2 ^ 32
+  pub distinct : Distinct (rows n l)
+
+-- the store m has the answer of the first n rows of l, then zeros, and r is the answer's number of triples
+pub record Answer (n : ℕ) (l : List ℕ) (r : ℕ) (m : List ℕ) : Type 0 where
+  pub count : r ≡ length (answer-of n l)
+  pub store : m ≡ filled l (flat (answer-of n l))

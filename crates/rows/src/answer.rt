@@ -1,0 +1,67 @@
+// What stands in the store at the end: the rows in order, without those that have an id 0, then zeros.
+use crate::sort::sort_rows;
+use crate::store::WIDTH;
+use crate::store::put_row;
+use crate::store::row;
+use common::Triple;
+ghost use mathlib.Core.Path.{_≡_};
+ghost use Prim.Native.Nat.{_*_, _≤_};
+ghost use lib.ListN.{length};
+ghost use Rattle.common.specs.Values.{triple-of};
+ghost use Rattle.common.specs.Closure.{no-zero};
+ghost use Rattle.rows.specs.Rows.{width};
+ghost use Rattle.rows.specs.Answer.{Kept, cleared, DistinctRows, Answer};
+
+// Whether no id of t is 0.
+pub fn no_zero(t: Triple) -> bool
+    ensures { λ r. ⌜ r ≡ no-zero (triple-of t) ⌝ }
+{
+    if t.s.0 == 0 {
+        return false;
+    }
+    if t.p.0 == 0 {
+        return false;
+    }
+    t.o.0 != 0
+}
+
+// Takes the rows that have an id 0 out of the first n, and answers how many are left. Their order is kept.
+pub fn remove_zero_rows(store: &mut [u32], n: usize) -> usize
+    requires { ⌜ width * n ≤ length (now store) ⌝ }
+    ensures { λ r. ⌜ Kept n (now (store .entry)) r (now (store .exit)) ⌝ }
+{
+    let mut kept = 0;
+    let mut i = 0;
+    while i < n {
+        let t = row(&*store, i);
+        i += 1;
+        if !no_zero(t) {
+            continue;
+        }
+        put_row(&mut *store, kept, t);
+        kept += 1;
+    }
+    kept
+}
+
+// All numbers from place k on become 0.
+pub fn clear_from(buf: &mut [u32], k: usize)
+    ensures { λ _. ⌜ now (buf .exit) ≡ cleared k (now (buf .entry)) ⌝ }
+{
+    let mut i = k;
+    while i < buf.len() {
+        buf[i] = 0;
+        i += 1;
+    }
+}
+
+// Leaves the answer of the first n rows in the store, and answers its number of triples.
+pub fn leave_answer(store: &mut [u32], n: usize) -> usize
+    requires { ⌜ DistinctRows n (now store) ⌝ }
+    ensures { λ r. ⌜ Answer n (now (store .entry)) r (now (store .exit)) ⌝ }
+{
+    sort_rows(&mut *store, WIDTH, n);
+    let kept = remove_zero_rows(&mut *store, n);
+    clear_from(&mut *store, WIDTH * kept);
+    kept
+}
