@@ -18,6 +18,7 @@ pub use store::WIDTH;
 pub use store::add;
 pub use store::bucket;
 pub use store::contains;
+pub use store::contains_below;
 pub use store::index_row;
 pub use store::position;
 pub use store::put_row;

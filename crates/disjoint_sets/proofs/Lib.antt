@@ -1,0 +1,7 @@
+pub mod Roots
+pub mod Hanging
+pub mod Loops
+pub mod Uniting
+pub mod Joining
+pub mod Listing
+pub mod Members

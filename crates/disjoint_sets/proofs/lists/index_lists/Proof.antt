@@ -1,0 +1,52 @@
+-- `disjoint_sets::index_lists` meets its contract. Invariant: the rows passed are in both chains. Assumes nothing.
+use native.Mathlib.Omega.{arith}
+use Prim.Native.Nat.{_-_}
+use Rattle.disjoint_sets.proofs.Listing.{Listing, listing-start, listing-ready, listing-step, listing-end}
+use borrow.Author.Needs.{needs}
+use Rattle.disjoint_sets.proofs.lists.index_lists.Statement.{statement}
+use Rattle.disjoint_sets.proofs.lists.index_lists.Tie as tie
+
+abbrev Inv-loop : tie.InvT-loop
+Inv-loop ix₀ work store n j₀ ix j = Listing store n j work ix₀ ix
+
+abbrev μ-loop : tie.MeasureT-loop
+μ-loop ix₀ work store n j₀ ix j = n - j
+
+loop-holds : tie.Need-loop-holds Inv-loop μ-loop
+loop-holds c = listing-start (c .before .before .before .pre)
+
+row-requires : tie.Need-row-requires Inv-loop μ-loop
+row-requires c κs = omega (arith, (c .before .before .before .before .before .before .pre .long))
+
+enter-row-requires : tie.Need-enter-row-requires Inv-loop μ-loop
+enter-row-requires c κs = listing-ready (c .before .before .before .before .before .before .before .pre) (c .before .before .before .loop .inv) (c .before .before .loop-test .taken) (c .row .ensures)
+
+add-j : tie.Need-add-j Inv-loop μ-loop
+add-j c = search needs
+
+loop-less : tie.Need-loop-less Inv-loop μ-loop
+loop-less c = search needs
+
+loop-again : tie.Need-loop-again Inv-loop μ-loop
+loop-again c = listing-step (c .before .before .before .before .before .before .before .before .before .before .pre) (c .before .before .before .before .before .before .loop .inv) (c .before .before .before .before .before .loop-test .taken) (c .before .before .before .row .ensures) (c .before .before .enter-row .ensures)
+
+same-length : tie.Need-same-length Inv-loop μ-loop
+same-length c = (c .before .loop .inv .both .same-length)
+
+returns : tie.Need-returns Inv-loop μ-loop
+returns c = listing-end (c .before .loop .inv) (omega arith)
+
+pub index-lists-spec : {M : Type 1} → statement M
+index-lists-spec =
+    tie.close
+    (tie.spec
+    Inv-loop
+    μ-loop
+    loop-holds
+    row-requires
+    enter-row-requires
+    add-j
+    loop-less
+    loop-again
+    same-length
+    returns)

@@ -1,0 +1,56 @@
+-- `disjoint_sets::alone` meets its contract. Invariant: the terms passed are their own parents. Assumes nothing.
+use native.Mathlib.Omega.{arith}
+use Prim.Native.Nat.{_-_}
+use Rattle.disjoint_sets.proofs.Loops.{Counting, counting-start, counting-step, counting-end}
+use borrow.Author.Needs.{needs}
+use Rattle.disjoint_sets.proofs.union_find.alone.Statement.{statement}
+use Rattle.disjoint_sets.proofs.union_find.alone.Tie as tie
+
+abbrev Inv-loop : tie.InvT-loop
+Inv-loop work₀ terms x₀ work x = Counting terms x work₀ work
+
+abbrev μ-loop : tie.MeasureT-loop
+μ-loop work₀ terms x₀ work x = terms - x
+
+loop-holds : tie.Need-loop-holds Inv-loop μ-loop
+loop-holds c = counting-start (c .before .pre .0)
+
+cast-t6 : tie.Need-cast-t6 Inv-loop μ-loop
+cast-t6 c = omega (arith, (c .before .before .before .pre .1 .few))
+
+uri2idx-requires : tie.Need-uri2idx-requires Inv-loop μ-loop
+uri2idx-requires c κs = search needs
+
+hang-requires : tie.Need-hang-requires Inv-loop μ-loop
+hang-requires c κs = (omega (arith, (c .before .uri2idx .ensures), (c .before .before .before .before .before .pre .1 .long), (c .before .before .before .loop .inv .same-length)), omega (arith, (c .before .uri2idx .ensures), (c .before .before .before .before .before .pre .1 .few)))
+
+add-x : tie.Need-add-x Inv-loop μ-loop
+add-x c = search needs
+
+loop-less : tie.Need-loop-less Inv-loop μ-loop
+loop-less c = search needs
+
+loop-again : tie.Need-loop-again Inv-loop μ-loop
+loop-again c = counting-step (c .before .before .before .before .before .before .before .before .pre .1) (c .before .before .before .before .before .before .loop .inv) (c .before .before .before .before .before .loop-test .taken) (c .before .before .before .before .uri2idx .ensures) (c .before .before .hang .ensures)
+
+same-length : tie.Need-same-length Inv-loop μ-loop
+same-length c = (c .before .loop .inv .same-length)
+
+returns : tie.Need-returns Inv-loop μ-loop
+returns c = counting-end (c .before .loop .inv) (omega arith)
+
+pub alone-spec : {M : Type 1} → statement M
+alone-spec =
+    tie.close
+    (tie.spec
+    Inv-loop
+    μ-loop
+    loop-holds
+    cast-t6
+    uri2idx-requires
+    hang-requires
+    add-x
+    loop-less
+    loop-again
+    same-length
+    returns)

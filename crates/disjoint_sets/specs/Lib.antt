@@ -1,0 +1,4 @@
+pub mod Places
+pub mod Forest
+pub mod Groups
+pub mod Lists
