@@ -7,8 +7,8 @@ use native.Mathlib.Omega.{arith}
 use lib.ListN.{length, set, length-set}
 use lib.Seq.{getD-set-same, getD-set-other}
 use borrow.Author.Tests.{eq-eqb, ne-eqb}
-use Rattle.rows.proofs.Cases.{is-or-not}
 use Rattle.common.specs.ListSets.{merge}
+use Rattle.rows.proofs.Cases.{is-or-not}
 use Rattle.disjoint_sets.specs.Places.{IsPlace}
 use Rattle.disjoint_sets.specs.Forest.{parent, Forest, root-of, SameRoots}
 use Rattle.disjoint_sets.proofs.Roots.{root-fixed, root-step, changed}

@@ -6,7 +6,7 @@ use Prim.Native.Nat.{ℕ, _+_, _≤_, _<_}
 use native.Mathlib.Omega.{arith}
 use lib.ListN.{length}
 use Rattle.common.specs.Triples.{Triple, triple}
-use Rattle.common.specs.Vocabulary.{rest, nil}
+use Rattle.common.specs.Vocabulary.{nil, rest}
 use Rattle.common.specs.Rules.{Graph}
 use Rattle.common.specs.ListSets.{Joined, alone, forth, back, merge}
 use Rattle.common.proofs.ListSets.{joined-trans, joined-sym, joined-eq, joined-up}

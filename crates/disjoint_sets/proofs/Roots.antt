@@ -5,8 +5,8 @@ use mathlib.Core.List.{List}
 use Prim.Native.Nat.{ℕ, zero, suc, _≤_, _<_}
 use native.Mathlib.Omega.{arith}
 use native.Mathlib.Nat.{not-suc-le-zero}
-use Rattle.rows.proofs.Cases.{is-or-not}
 use Rattle.common.specs.Table.{on}
+use Rattle.rows.proofs.Cases.{is-or-not}
 use Rattle.disjoint_sets.specs.Places.{IsPlace, PlaceIn}
 use Rattle.disjoint_sets.specs.Forest.{parent, Forest, climb, root-of, SameRoots}
 

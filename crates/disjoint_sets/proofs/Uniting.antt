@@ -6,8 +6,8 @@ use Prim.Native.Nat.{ℕ, _≤_, _<_}
 use native.Mathlib.Omega.{arith}
 use lib.ListN.{set, length-set}
 use lib.Seq.{set-getD}
-use Rattle.rows.proofs.Cases.{is-or-not}
 use Rattle.common.specs.ListSets.{merge}
+use Rattle.rows.proofs.Cases.{is-or-not}
 use Rattle.disjoint_sets.specs.Places.{IsPlace, PlaceIn}
 use Rattle.disjoint_sets.specs.Forest.{parent, Forest, root-of, SameRoots, Rooted, United}
 use Rattle.disjoint_sets.proofs.Roots.{root-is, root-low, root-place, roots-on}

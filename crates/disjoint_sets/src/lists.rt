@@ -19,7 +19,7 @@ ghost use Rattle.common.specs.Values.{triple-of};
 ghost use Rattle.disjoint_sets.specs.Places.{place-of, TermRoom};
 ghost use Rattle.disjoint_sets.specs.Forest.{Forest};
 ghost use Rattle.disjoint_sets.specs.Groups.{Ends, Tried, StartRows, Agrees, row-graph, head-of};
-ghost use Rattle.disjoint_sets.specs.Lists.{first-key, ListableRow, listed, Listable, Listed};
+ghost use Rattle.disjoint_sets.specs.Lists.{first-key, ListableRow, both-entered, Listable, Listed};
 
 // The chains of the rdf:first rows by the group of their subject, and by their object, are these blocks of the index buffer.
 pub const MEMBERS: usize = 4 * BLOCK;
@@ -75,7 +75,7 @@ fn key(t: Triple, x: Id) -> usize
 // Row j, which holds t, enters both chains.
 fn enter_row(ix: &mut [u32], work: &[u32], t: Triple, j: usize)
     requires { ⌜ ListableRow (now ix) (now work) (triple-of t) j ⌝ }
-    ensures { λ _. ⌜ now (ix .exit) ≡ listed (now (ix .entry)) (now (work .entry)) (triple-of t) j ⌝ }
+    ensures { λ _. ⌜ now (ix .exit) ≡ both-entered (now (ix .entry)) (now (work .entry)) (triple-of t) j ⌝ }
 {
     enter(ix, MEMBERS, key(t, realhead(work, t.s)), j);
     enter(ix, LISTS, key(t, t.o), j);
