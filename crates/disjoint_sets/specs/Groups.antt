@@ -19,7 +19,7 @@ abbrev pub row-graph : List ℕ → ℕ → Graph
 row-graph store n s p o = InRows store n (triple s p o)
 
 -- these triples are the first n rows
-pub record Holds (store : List ℕ) (n : ℕ) (ts : List Triple) : Type 0 where
+pub record SameTriples (store : List ℕ) (n : ℕ) (ts : List Triple) : Type 0 where
   pub all : (t : Triple) → In t ts → InRows store n t
   pub only : (t : Triple) → InRows store n t → In t ts
 

@@ -1,5 +1,5 @@
 -- `disjoint_sets::clear` meets its contract. Assumes nothing.
-use Rattle.disjoint_sets.proofs.Members.{clear-all}
+use Rattle.disjoint_sets.proofs.Making.{clear-all}
 use borrow.Author.Needs.{needs}
 use Rattle.disjoint_sets.proofs.clear.Statement.{statement}
 use Rattle.disjoint_sets.proofs.clear.Tie as tie

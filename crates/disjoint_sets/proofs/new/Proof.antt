@@ -1,6 +1,6 @@
 -- `disjoint_sets::new` meets its contract. Assumes nothing.
 use mathlib.Core.Path.{_∙_}
-use Rattle.disjoint_sets.proofs.Members.{making-rows, making-roots, making-lists, making-end}
+use Rattle.disjoint_sets.proofs.Making.{making-rows, making-roots, making-lists, making-end}
 use borrow.Author.Needs.{needs}
 use Rattle.disjoint_sets.proofs.new.Statement.{statement}
 use Rattle.disjoint_sets.proofs.new.Tie as tie
