@@ -32,6 +32,7 @@ key→ t x {k} h e = go (is-or-not (t .p) first)
     go (inl i) = (i, sym (key-first t x i) ∙ e)
     go (inr n) = absurd (omega (arith, key-other t x n))
 
+-- it is a key of the chains
 key-small : (t : Triple) (x : ℕ) → x < keys → first-key t x < keys
 key-small t x h = go (eqb (t .p) first)
   where
@@ -52,12 +53,14 @@ module _ (ix work : List ℕ) (t : Triple) (j : ℕ) (r : ListableRow ix work t 
   pub room-lists : {k : ℕ} {iy : List ℕ} → length iy ≡ length ix → k ≡ list-key t → Room iy lists-at k j
   room-lists {k} {iy} len e = subst (λ k. Room iy lists-at k j) (sym e) (record { long = omega (arith, r .wide); key = key-small t (t .o) (r .keyed .object); row = r .row })
 
+  -- both blocks have room
   first-room : Room ix members-at (member-key work t) j
   first-room = room-members refl
 
   second-room : Room half lists-at (list-key t) j
   second-room = room-lists (length-entered ix members-at (member-key work t) j first-room) refl
 
+  -- the index buffer stays as long
   length-both : length (both-entered ix work t j) ≡ length ix
   unfolding both-entered
   length-both = length-entered half lists-at (list-key t) j second-room ∙ length-entered ix members-at (member-key work t) j first-room
@@ -92,14 +95,14 @@ pub record Listing (store : List ℕ) (n j : ℕ) (work ix iy : List ℕ) : Type
   pub bound : j ≤ n
   pub both : Listed store j work ix iy
 
+-- at the start no row is entered
 pub listing-start : {ix work store : List ℕ} {n : ℕ} → Listable ix work store n → Listing store n 0 work ix ix
 listing-start {ix} r = record {
   bound = omega arith;
   both = record {
     same-length = refl;
     elsewhere = λ k h. refl;
-    by-group = chain-none _ ix members-at (r .blank .no-groups);
-    by-member = chain-none _ ix lists-at (r .blank .no-members);
+    chains = record { by-group = chain-none _ ix members-at (r .blank .no-groups); by-member = chain-none _ ix lists-at (r .blank .no-members) };
   };
 }
 
@@ -108,16 +111,21 @@ module _ {ix iy work store : List ℕ} {n j : ℕ} (r : Listable ix work store n
   pub listing-ready : ListableRow iy work t j
   listing-ready = record { wide = omega (arith, r .blank .wide, v .both .same-length); keyed = subst (Keyed work) (sym e) (r .keyed j h); row = omega (arith, r .few) }
 
+  -- the chains with this row
   step : Listed store (j + 1) work ix (both-entered iy work t j)
   step = record {
     same-length = length-both iy work t j listing-ready ∙ v .both .same-length;
     elsewhere = λ k i. both-other iy work t j listing-ready k i ∙ v .both .elsewhere k i;
-    by-group = both-groups iy work t j listing-ready store e (v .both .by-group);
-    by-member = both-members iy work t j listing-ready store e (v .both .by-member);
+    chains = record {
+      by-group = both-groups iy work t j listing-ready store e (v .both .chains .by-group);
+      by-member = both-members iy work t j listing-ready store e (v .both .chains .by-member);
+    };
   }
 
+  -- the next row
   pub listing-step : {iz : List ℕ} → iz ≡ both-entered iy work t j → Listing store n (j + 1) work ix iz
   listing-step d = record { bound = omega arith; both = subst (Listed store (j + 1) work ix) (sym d) step }
 
+-- at the end all rows are entered
 pub listing-end : {ix iy work store : List ℕ} {n j : ℕ} → Listing store n j work ix iy → n ≤ j → Listed store n work ix iy
 listing-end {ix} {iy} {work} {store} v h = subst (λ k. Listed store k work ix iy) (let b = v .bound in omega arith) (v .both)
