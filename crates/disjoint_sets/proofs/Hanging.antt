@@ -7,8 +7,8 @@ use native.Mathlib.Omega.{arith}
 use lib.ListN.{length, set, length-set}
 use lib.Seq.{getD-set-same, getD-set-other}
 use borrow.Author.Tests.{eq-eqb, ne-eqb}
-use Rattle.rows.proofs.Cases.{is-or-not}
 use Rattle.common.specs.ListSets.{merge}
+use Rattle.rows.proofs.Cases.{is-or-not}
 use Rattle.disjoint_sets.specs.Places.{IsPlace}
 use Rattle.disjoint_sets.specs.Forest.{parent, Forest, root-of, SameRoots}
 use Rattle.disjoint_sets.proofs.Roots.{root-fixed, root-step, changed}
@@ -45,15 +45,19 @@ module _ (l : List ℕ) (f : Forest l) (p : ℕ) (h : p < length l) where
   abbrev halved : List ℕ
   halved = set l p (parent l (parent l p))
 
+  -- what stands at p then
   at-p : parent halved p ≡ parent l (parent l p)
   at-p = getD-set-same l p (parent l (parent l p)) 0 h
 
+  -- and at every other place
   at-k : (k : ℕ) → (k ≡ p → ⊥) → parent halved k ≡ parent l k
   at-k k n = getD-set-other l p k (parent l (parent l p)) 0 n
 
+  -- it is a forest
   forest-halved : Forest halved
   forest-halved = forest-set f h (omega (arith, f .low p, f .low (parent l p))) (f .places (parent l p))
 
+  -- what is its own parent then was its own root
   stops : (k : ℕ) → parent halved k ≡ k → root-of l k ≡ k
   stops k e = root-fixed l k (go (is-or-not k p))
     where
@@ -64,6 +68,7 @@ module _ (l : List ℕ) (f : Forest l) (p : ℕ) (h : p < length l) where
           subst (λ q. parent l q ≡ q) (sym x) w
       go (inr n) = sym (at-k k n) ∙ e
 
+  -- the root of the parent is still the root
   goes : (k : ℕ) → root-of l (parent halved k) ≡ root-of l k
   goes k = go (is-or-not k p)
     where
@@ -73,6 +78,7 @@ module _ (l : List ℕ) (f : Forest l) (p : ℕ) (h : p < length l) where
           (ap (root-of l) at-p ∙ root-step l f (parent l p) ∙ root-step l f p)
       go (inr n) = ap (root-of l) (at-k k n) ∙ root-step l f k
 
+  -- so the roots are as they were
   pub halve : SameRoots l (set l p (parent l (parent l p)))
   halve = record { same-length = length-set l p (parent l (parent l p)); forest = forest-halved; roots = changed l halved forest-halved (λ x. x) stops goes }
 
@@ -81,15 +87,19 @@ module _ (l : List ℕ) (f : Forest l) (x y : ℕ) (less : x < y) (h : y < lengt
   abbrev hung : List ℕ
   hung = set l y x
 
+  -- what stands at y then
   at-y : parent hung y ≡ x
   at-y = getD-set-same l y x 0 h
 
+  -- and at every other place
   at-other : (k : ℕ) → (k ≡ y → ⊥) → parent hung k ≡ parent l k
   at-other k n = getD-set-other l y k x 0 n
 
+  -- it is a forest
   pub hang-forest : Forest (set l y x)
   hang-forest = forest-set f h (omega arith) place-x
 
+  -- what is its own parent then is the root of its group
   stays : (k : ℕ) → parent hung k ≡ k → merge y x (root-of l k) ≡ k
   stays k e = go (is-or-not k y)
     where
@@ -99,6 +109,7 @@ module _ (l : List ℕ) (f : Forest l) (x y : ℕ) (less : x < y) (h : y < lengt
           let q = root-fixed l k (sym (at-other k n) ∙ e) in
           ap (merge y x) q ∙ merge-miss y x k n
 
+  -- and each place has the root of its parent
   moves : (k : ℕ) → merge y x (root-of l (parent hung k)) ≡ merge y x (root-of l k)
   moves k = go (is-or-not k y)
     where
@@ -108,5 +119,6 @@ module _ (l : List ℕ) (f : Forest l) (x y : ℕ) (less : x < y) (h : y < lengt
           (ap (λ i. merge y x (root-of l i)) at-y ∙ ap (merge y x) (root-fixed l x rx) ∙ merge-miss y x x (λ e. omega arith) ∙ sym (ap (merge y x) (root-fixed l y ry) ∙ merge-hit y x y refl))
       go (inr n) = ap (λ i. merge y x (root-of l i)) (at-other k n) ∙ ap (merge y x) (root-step l f k)
 
+  -- so the group of y is that of x
   pub hang-roots : (k : ℕ) → root-of (set l y x) k ≡ merge y x (root-of l k)
   hang-roots = changed l hung hang-forest (merge y x) stays moves

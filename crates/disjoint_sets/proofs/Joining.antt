@@ -6,11 +6,11 @@ use Prim.Native.Nat.{ℕ, _+_, _≤_, _<_}
 use native.Mathlib.Omega.{arith}
 use lib.ListN.{length}
 use Rattle.common.specs.Triples.{Triple, triple}
-use Rattle.common.specs.Vocabulary.{rest, nil}
+use Rattle.common.specs.Vocabulary.{nil, rest}
 use Rattle.common.specs.Rules.{Graph}
 use Rattle.common.specs.ListSets.{Joined, alone, forth, back, merge}
 use Rattle.common.proofs.ListSets.{joined-trans, joined-sym, joined-eq, joined-up}
-use Rattle.rows.specs.Rows.{rowAt, rows, InRows}
+use Rattle.rows.specs.Rows.{rowAt, InRows}
 use Rattle.rows.proofs.Cases.{is-or-not}
 use Rattle.rows.proofs.Rows.{triple-eq}
 use Rattle.disjoint_sets.specs.Places.{place-of, id-of, IsPlace, TermRoom}
@@ -70,9 +70,11 @@ module _ {a b : ℕ} {l m : List ℕ} (u : United a b l m) where
 
 -- an edge s o more, of which the places are united
 module _ {terms : ℕ} {S : Graph} (S′ : Graph) {s o : ℕ} {l m : List ℕ} (v : Agrees terms S l) (hs : s < terms) (ho : o < terms) (u : United (place-of s) (place-of o) l m) (up : (x y : ℕ) → S x rest y → S′ x rest y) (new : S′ s rest o) (not-nil : o ≢ nil) (old : (x y : ℕ) → S′ x rest y → S x rest y ⊎ ((x ≡ s) × (y ≡ o))) where
+  -- what had one root is joined as before
   before : (x y : ℕ) → x < terms → y < terms → root-of l (place-of x) ≡ root-of l (place-of y) → Joined S′ x y
   before x y i j e = joined-up up (v .together x y i j e)
 
+  -- what is joined by the new edge alone
   across : (x y : ℕ) → x < terms → y < terms → root-of l (place-of x) ≡ u .high → root-of l (place-of y) ≡ u .low → Joined S′ x y
   across x y i j a b = go (u .ends)
     where
@@ -80,6 +82,7 @@ module _ {terms : ℕ} {S : Graph} (S′ : Graph) {s o : ℕ} {l m : List ℕ} (
       go (inl (c, d)) = joined-trans (before x s i hs (a ∙ c)) (forth new not-nil (before o y ho j (sym (b ∙ d))))
       go (inr (c, d)) = joined-trans (before x o i ho (a ∙ c)) (back new not-nil (before s y hs j (sym (b ∙ d))))
 
+  -- so the trees are the groups again
   pub agrees-edge : Agrees terms S′ m
   agrees-edge = record {
     forest = u .forest;
@@ -110,6 +113,7 @@ pub record Joining (terms n j : ℕ) (store l₀ l : List ℕ) : Type 0 where
   pub bound : j ≤ n
   pub agrees : Agrees terms (row-graph store j) l
 
+-- at the start no row is passed
 pub joining-start : {terms n : ℕ} {store l : List ℕ} → Alone terms l → Joining terms n 0 store l l
 joining-start v = record {
   same-length = refl;
@@ -121,18 +125,20 @@ joining-start v = record {
   };
 }
 
-module _ {terms n j : ℕ} {store l₀ l : List ℕ} (rows : StartRows terms store n) (v : Joining terms n j store l₀ l) (h : j < n) {t : Triple} (e : t ≡ rowAt store j) where
+module _ {terms n j : ℕ} {store l₀ l : List ℕ} (start : StartRows terms store n) (v : Joining terms n j store l₀ l) (h : j < n) {t : Triple} (e : t ≡ rowAt store j) where
   -- what join requires
   pub joining-ready : TermRoom terms l₀ → Ends l t
   joining-ready room = subst (Ends l) (sym e) (record {
     forest = v .agrees .forest;
-    subject = place-in (room-kept (v .same-length) room) (rows .subjects j h);
-    object = place-in (room-kept (v .same-length) room) (rows .objects j h);
+    subject = place-in (room-kept (v .same-length) room) (start .subjects j h);
+    object = place-in (room-kept (v .same-length) room) (start .objects j h);
   })
 
+  -- a row passed before is passed
   more : {u : Triple} → InRows store j u → InRows store (j + 1) u
   more r = record { at = r .at; below = omega (arith, r .below); is = r .is }
 
+  -- a row passed is one passed before, or this one
   last : {u : Triple} → InRows store (j + 1) u → InRows store j u ⊎ (u ≡ t)
   last {u} r = go (is-or-not (r .at) j)
     where
@@ -140,8 +146,9 @@ module _ {terms n j : ℕ} {store l₀ l : List ℕ} (rows : StartRows terms sto
       go (inl i) = inr (sym (r .is) ∙ ap (rowAt store) i ∙ sym e)
       go (inr i) = inl (record { at = r .at; below = omega (arith, r .below); is = r .is })
 
+  -- the groups with this row
   step : {m : List ℕ} → Tried t l m → Agrees terms (row-graph store (j + 1)) m
-  step (inl (g, u)) = agrees-edge (row-graph store (j + 1)) (v .agrees) (subst (λ w. w .s < terms) (sym e) (rows .subjects j h)) (subst (λ w. w .o < terms) (sym e) (rows .objects j h)) u (λ x y i. more i)
+  step (inl (g, u)) = agrees-edge (row-graph store (j + 1)) (v .agrees) (subst (λ w. w .s < terms) (sym e) (start .subjects j h)) (subst (λ w. w .o < terms) (sym e) (start .objects j h)) u (λ x y i. more i)
       (record { at = j; below = omega arith; is = sym e ∙ triple-eq t (triple (t .s) rest (t .o)) refl (g .is-rest) refl }) (g .not-nil)
       (λ x y i. ends (last i))
     where
@@ -154,9 +161,11 @@ module _ {terms n j : ℕ} {store l₀ l : List ℕ} (rows : StartRows terms sto
       old n (inl i) = i
       old n (inr i) = absurd (g (record { is-rest = ap (λ w. w .p) (sym i); not-nil = λ k. n (ap (λ w. w .o) i ∙ k) }))
 
+  -- the next row
   pub joining-step : {m : List ℕ} → length m ≡ length l → Tried t l m → Joining terms n (j + 1) store l₀ m
   joining-step len w = record { same-length = len ∙ v .same-length; bound = omega arith; agrees = step w }
 
+-- at the end all rows are passed
 pub joining-end : {terms n j : ℕ} {store l₀ l : List ℕ} → Joining terms n j store l₀ l → n ≤ j → Agrees terms (row-graph store n) l
 joining-end {terms} {n} {j} {store} {l₀} {l} v h = subst (λ k. Agrees terms (row-graph store k) l) (let b = v .bound in omega arith) (v .agrees)
 

@@ -4,4 +4,5 @@ pub mod Loops
 pub mod Uniting
 pub mod Joining
 pub mod Listing
+pub mod Making
 pub mod Members

@@ -15,7 +15,7 @@ use Rattle.rows.specs.Chains.{keys, block, Chain, Room, entered}
 use Rattle.rows.proofs.Cases.{is-or-not}
 use Rattle.rows.proofs.Chain.{length-entered, entered-other, chain-none, chain-entered, enter-keeps}
 use Rattle.disjoint_sets.specs.Groups.{head-of}
-use Rattle.disjoint_sets.specs.Lists.{members-at, lists-at, no-id, first-key, member-key, list-key, listed, Keyed, ListableRow, Listable, Listed}
+use Rattle.disjoint_sets.specs.Lists.{members-at, lists-at, no-id, first-key, member-key, list-key, both-entered, Keyed, ListableRow, Listable, Listed}
 
 -- the key of an rdf:first triple, and of any other
 pub key-first : (t : Triple) (x : ℕ) → t .p ≡ first → first-key t x ≡ x
@@ -32,6 +32,7 @@ key→ t x {k} h e = go (is-or-not (t .p) first)
     go (inl i) = (i, sym (key-first t x i) ∙ e)
     go (inr n) = absurd (omega (arith, key-other t x n))
 
+-- it is a key of the chains
 key-small : (t : Triple) (x : ℕ) → x < keys → first-key t x < keys
 key-small t x h = go (eqb (t .p) first)
   where
@@ -52,72 +53,79 @@ module _ (ix work : List ℕ) (t : Triple) (j : ℕ) (r : ListableRow ix work t 
   pub room-lists : {k : ℕ} {iy : List ℕ} → length iy ≡ length ix → k ≡ list-key t → Room iy lists-at k j
   room-lists {k} {iy} len e = subst (λ k. Room iy lists-at k j) (sym e) (record { long = omega (arith, r .wide); key = key-small t (t .o) (r .keyed .object); row = r .row })
 
+  -- both blocks have room
   first-room : Room ix members-at (member-key work t) j
   first-room = room-members refl
 
   second-room : Room half lists-at (list-key t) j
   second-room = room-lists (length-entered ix members-at (member-key work t) j first-room) refl
 
-  length-listed : length (listed ix work t j) ≡ length ix
-  unfolding listed
-  length-listed = length-entered half lists-at (list-key t) j second-room ∙ length-entered ix members-at (member-key work t) j first-room
+  -- the index buffer stays as long
+  length-both : length (both-entered ix work t j) ≡ length ix
+  unfolding both-entered
+  length-both = length-entered half lists-at (list-key t) j second-room ∙ length-entered ix members-at (member-key work t) j first-room
 
   -- nothing outside the two blocks has changed
-  listed-other : (k : ℕ) → (k < members-at) ⊎ (lists-at + block ≤ k) → getD (listed ix work t j) k 0 ≡ getD ix k 0
-  unfolding listed
-  listed-other k h =
+  both-other : (k : ℕ) → (k < members-at) ⊎ (lists-at + block ≤ k) → getD (both-entered ix work t j) k 0 ≡ getD ix k 0
+  unfolding both-entered
+  both-other k h =
       entered-other half lists-at (list-key t) j second-room k (⊎-elim (λ a. inl (omega arith)) inr h)
       ∙ entered-other ix members-at (member-key work t) j first-room k (⊎-elim inl (λ a. inr (omega arith)) h)
 
   -- both chains have one row more
-  listed-members : (store : List ℕ) → t ≡ rowAt store j → Chain (λ i. member-key work (rowAt store i)) j ix members-at → Chain (λ i. member-key work (rowAt store i)) (j + 1) (listed ix work t j) members-at
-  unfolding listed
-  listed-members store e c =
+  both-groups : (store : List ℕ) → t ≡ rowAt store j → Chain (λ i. member-key work (rowAt store i)) j ix members-at → Chain (λ i. member-key work (rowAt store i)) (j + 1) (both-entered ix work t j) members-at
+  unfolding both-entered
+  both-groups store e c =
       enter-keeps _ half lists-at (list-key t) j members-at second-room (inl (omega arith)) (omega (arith, r .row))
       (chain-entered (λ i. member-key work (rowAt store i)) ix members-at (member-key work t) j first-room (ap (member-key work) (sym e)) c)
 
-  listed-lists : (store : List ℕ) → t ≡ rowAt store j → Chain (λ i. list-key (rowAt store i)) j ix lists-at → Chain (λ i. list-key (rowAt store i)) (j + 1) (listed ix work t j) lists-at
-  unfolding listed
-  listed-lists store e c =
+  both-members : (store : List ℕ) → t ≡ rowAt store j → Chain (λ i. list-key (rowAt store i)) j ix lists-at → Chain (λ i. list-key (rowAt store i)) (j + 1) (both-entered ix work t j) lists-at
+  unfolding both-entered
+  both-members store e c =
       chain-entered (λ i. list-key (rowAt store i)) half lists-at (list-key t) j second-room (ap list-key (sym e))
       (enter-keeps _ ix members-at (member-key work t) j lists-at first-room (inr (omega arith)) (omega (arith, r .row)) c)
 
 -- what the code leaves: the row entered in one block after the other
-pub listed-is : (ix iy iz work : List ℕ) (t : Triple) (j a b : ℕ) → a ≡ member-key work t → b ≡ list-key t → iy ≡ entered ix members-at a j → iz ≡ entered iy lists-at b j → iz ≡ listed ix work t j
-unfolding listed
-listed-is ix iy iz work t j a b e f g h = cc
+pub both-is : (ix iy iz work : List ℕ) (t : Triple) (j a b : ℕ) → a ≡ member-key work t → b ≡ list-key t → iy ≡ entered ix members-at a j → iz ≡ entered iy lists-at b j → iz ≡ both-entered ix work t j
+unfolding both-entered
+both-is ix iy iz work t j a b e f g h = cc
 
 -- index_lists, at row j: the rows passed are in both chains
 pub record Listing (store : List ℕ) (n j : ℕ) (work ix iy : List ℕ) : Type 0 where
   pub bound : j ≤ n
   pub both : Listed store j work ix iy
 
+-- at the start no row is entered
 pub listing-start : {ix work store : List ℕ} {n : ℕ} → Listable ix work store n → Listing store n 0 work ix ix
 listing-start {ix} r = record {
   bound = omega arith;
   both = record {
     same-length = refl;
     elsewhere = λ k h. refl;
-    by-group = chain-none _ ix members-at (r .no-groups);
-    by-member = chain-none _ ix lists-at (r .no-members);
+    chains = record { by-group = chain-none _ ix members-at (r .blank .no-groups); by-member = chain-none _ ix lists-at (r .blank .no-members) };
   };
 }
 
 module _ {ix iy work store : List ℕ} {n j : ℕ} (r : Listable ix work store n) (v : Listing store n j work ix iy) (h : j < n) {t : Triple} (e : t ≡ rowAt store j) where
   -- what enter_row requires
   pub listing-ready : ListableRow iy work t j
-  listing-ready = record { wide = omega (arith, r .wide, v .both .same-length); keyed = subst (Keyed work) (sym e) (r .keyed j h); row = omega (arith, r .few) }
+  listing-ready = record { wide = omega (arith, r .blank .wide, v .both .same-length); keyed = subst (Keyed work) (sym e) (r .keyed j h); row = omega (arith, r .few) }
 
-  step : Listed store (j + 1) work ix (listed iy work t j)
+  -- the chains with this row
+  step : Listed store (j + 1) work ix (both-entered iy work t j)
   step = record {
-    same-length = length-listed iy work t j listing-ready ∙ v .both .same-length;
-    elsewhere = λ k i. listed-other iy work t j listing-ready k i ∙ v .both .elsewhere k i;
-    by-group = listed-members iy work t j listing-ready store e (v .both .by-group);
-    by-member = listed-lists iy work t j listing-ready store e (v .both .by-member);
+    same-length = length-both iy work t j listing-ready ∙ v .both .same-length;
+    elsewhere = λ k i. both-other iy work t j listing-ready k i ∙ v .both .elsewhere k i;
+    chains = record {
+      by-group = both-groups iy work t j listing-ready store e (v .both .chains .by-group);
+      by-member = both-members iy work t j listing-ready store e (v .both .chains .by-member);
+    };
   }
 
-  pub listing-step : {iz : List ℕ} → iz ≡ listed iy work t j → Listing store n (j + 1) work ix iz
+  -- the next row
+  pub listing-step : {iz : List ℕ} → iz ≡ both-entered iy work t j → Listing store n (j + 1) work ix iz
   listing-step d = record { bound = omega arith; both = subst (Listed store (j + 1) work ix) (sym d) step }
 
+-- at the end all rows are entered
 pub listing-end : {ix iy work store : List ℕ} {n j : ℕ} → Listing store n j work ix iy → n ≤ j → Listed store n work ix iy
 listing-end {ix} {iy} {work} {store} v h = subst (λ k. Listed store k work ix iy) (let b = v .bound in omega arith) (v .both)

@@ -6,15 +6,16 @@ use Prim.Native.Nat.{ℕ, zero, suc, _≤_, _<_}
 use native.Mathlib.Omega.{arith}
 use native.Mathlib.Nat.{not-suc-le-zero}
 use Rattle.rows.proofs.Cases.{is-or-not}
-use Rattle.common.specs.Table.{on}
 use Rattle.disjoint_sets.specs.Places.{IsPlace, PlaceIn}
 use Rattle.disjoint_sets.specs.Forest.{parent, Forest, climb, root-of, SameRoots}
 
+-- the last step of several
 climb-end : (k : ℕ) (l : List ℕ) (p : ℕ) → climb (suc k) l p ≡ parent l (climb k l p)
 unfolding climb
 climb-end zero l p = refl
 climb-end (suc k) l p = climb-end k l (parent l p)
 
+-- at a root every step stays
 climb-stay : (k : ℕ) (l : List ℕ) (p : ℕ) → parent l p ≡ p → climb k l p ≡ p
 unfolding climb
 climb-stay zero l p e = refl
@@ -26,11 +27,13 @@ unfolding root-of
 root-fixed l p e = climb-stay p l p e
 
 module _ (l : List ℕ) (f : Forest l) where
+  -- steps up lead to no later place
   climb-low : (k p : ℕ) → climb k l p ≤ p
   unfolding climb
   climb-low zero p = omega arith
   climb-low (suc k) p = omega (arith, climb-low k (parent l p), f .low p)
 
+  -- and to a term's place
   climb-place : (k p : ℕ) → IsPlace p → IsPlace (climb k l p)
   unfolding climb
   climb-place zero p h = h
@@ -83,7 +86,8 @@ module _ (l : List ℕ) (f : Forest l) where
   parent-in {p} h = let g = f .low p in record { is-place = f .places p; within = omega (arith, h .within); small = omega (arith, h .small) }
 
 -- the roots of m are those of l, changed by h: it is enough to see one step
-module _ (l m : List ℕ) (fm : Forest m) (h : ℕ → ℕ) (stop : (p : ℕ) → parent m p ≡ p → h (root-of l p) ≡ p) (on : (p : ℕ) → h (root-of l (parent m p)) ≡ h (root-of l p)) where
+module _ (l m : List ℕ) (fm : Forest m) (h : ℕ → ℕ) (stop : (p : ℕ) → parent m p ≡ p → h (root-of l p) ≡ p) (step : (p : ℕ) → h (root-of l (parent m p)) ≡ h (root-of l p)) where
+  -- below n
   below : (n p : ℕ) → p < n → root-of m p ≡ h (root-of l p)
   below zero p i = absurd (not-suc-le-zero i)
   below (suc n) p i = go (is-or-not (parent m p) p) (λ q a. below n q a)
@@ -92,8 +96,9 @@ module _ (l m : List ℕ) (fm : Forest m) (h : ℕ → ℕ) (stop : (p : ℕ) �
       go (inl e) k = root-fixed m p e ∙ sym (stop p e)
       go (inr e) k =
           let g = fm .low p in
-          sym (root-step m fm p) ∙ k (parent m p) (omega arith) ∙ on p
+          sym (root-step m fm p) ∙ k (parent m p) (omega arith) ∙ step p
 
+  -- everywhere
   pub changed : (p : ℕ) → root-of m p ≡ h (root-of l p)
   changed p = below (suc p) p (omega arith)
 

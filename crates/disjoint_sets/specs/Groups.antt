@@ -5,11 +5,12 @@ use mathlib.Core.Logic.{_⊎_, _≢_}
 use mathlib.Core.List.{List}
 use Prim.Native.Nat.{ℕ, _*_, _≤_, _<_}
 use lib.ListN.{length}
-use Rattle.rows.specs.Rows.{width, rowAt, InRows}
-use Rattle.common.specs.Triples.{Triple, triple}
-use Rattle.common.specs.Vocabulary.{rest, nil}
+use Rattle.common.specs.Triples.{Triple, triple, In}
+use Rattle.common.specs.Vocabulary.{nil, rest}
 use Rattle.common.specs.Rules.{Graph}
 use Rattle.common.specs.ListSets.{Joined}
+use Rattle.rows.specs.Rows.{width, rowAt, InRows}
+use Rattle.rows.specs.Chains.{keys}
 use Rattle.disjoint_sets.specs.Places.{place-of, id-of, PlaceIn}
 use Rattle.disjoint_sets.specs.Forest.{Forest, root-of, United, root-word}
 
@@ -17,9 +18,15 @@ use Rattle.disjoint_sets.specs.Forest.{Forest, root-of, United, root-wor
 abbrev pub row-graph : List ℕ → ℕ → Graph
 row-graph store n s p o = InRows store n (triple s p o)
 
+-- these triples are the first n rows
+pub record SameTriples (store : List ℕ) (n : ℕ) (ts : List Triple) : Type 0 where
+  pub all : (t : Triple) → In t ts → InRows store n t
+  pub only : (t : Triple) → InRows store n t → In t ts
+
 -- the store has n rows, and their subjects and objects are among the terms
 pub record StartRows (terms : ℕ) (store : List ℕ) (n : ℕ) : Type 0 where
   pub long : width * n ≤ length store
+  pub few : n ≤ keys
   pub subjects : (j : ℕ) → j < n → rowAt store j .s < terms
   pub objects : (j : ℕ) → j < n → rowAt store j .o < terms
 

@@ -1,5 +1,4 @@
 // The lists of the starting triples: which terms rdf:rest joins, and which are members by rdf:first.
-use crate::Place;
 use crate::idx2uri;
 use crate::union_find::alone;
 use crate::union_find::root;
@@ -13,15 +12,16 @@ use rows::chains::BLOCK;
 use rows::enter;
 use rows::row;
 ghost use mathlib.Core.Path.{_≡_};
-ghost use Prim.Native.Nat.{_+_, _*_, _<_, _≤_};
+ghost use Prim.Native.Nat.{_+_, _<_};
 ghost use lib.ListN.{length};
 ghost use Rattle.common.specs.Values.{triple-of};
 ghost use Rattle.disjoint_sets.specs.Places.{place-of, TermRoom};
 ghost use Rattle.disjoint_sets.specs.Forest.{Forest};
 ghost use Rattle.disjoint_sets.specs.Groups.{Ends, Tried, StartRows, Agrees, row-graph, head-of};
-ghost use Rattle.disjoint_sets.specs.Lists.{first-key, ListableRow, listed, Listable, Listed};
+ghost use Rattle.disjoint_sets.specs.Lists.{first-key, ListableRow, both-entered, Listable, Listed};
 
-// The chains of the rdf:first rows by the group of their subject, and by their object, are these blocks of the index buffer.
+// The blocks of the index buffer with the chains of rdf:first rows, behind the store's own: by the group of their subject, and by
+// their object.
 pub const MEMBERS: usize = 4 * BLOCK;
 
 pub const LISTS: usize = 5 * BLOCK;
@@ -75,9 +75,10 @@ fn key(t: Triple, x: Id) -> usize
 // Row j, which holds t, enters both chains.
 fn enter_row(ix: &mut [u32], work: &[u32], t: Triple, j: usize)
     requires { ⌜ ListableRow (now ix) (now work) (triple-of t) j ⌝ }
-    ensures { λ _. ⌜ now (ix .exit) ≡ listed (now (ix .entry)) (now (work .entry)) (triple-of t) j ⌝ }
+    ensures { λ _. ⌜ now (ix .exit) ≡ both-entered (now (ix .entry)) (now (work .entry)) (triple-of t) j ⌝ }
 {
-    enter(ix, MEMBERS, key(t, realhead(work, t.s)), j);
+    let head = realhead(work, t.s);
+    enter(ix, MEMBERS, key(t, head), j);
     enter(ix, LISTS, key(t, t.o), j);
 }
 

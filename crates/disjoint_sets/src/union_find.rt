@@ -86,6 +86,7 @@ pub fn root(work: &[u32], p: Place) -> Place
     Place(wide(work[at + 1]))
 }
 
+// From here on r is the root of p.
 fn put_root(work: &mut [u32], p: Place, r: Place)
     requires { ⌜ (p .0 + 1 < length (now work)) × (r .0 < 2 ^ 32) ⌝ }
     ensures { λ _. ⌜ now (work .exit) ≡ set (now (work .entry)) (p .0 + 1) (r .0) ⌝ }
