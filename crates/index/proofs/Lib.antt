@@ -1,0 +1,14 @@
+pub mod Choice
+pub mod Equality
+pub mod Decoding
+pub mod Holding
+pub mod Reachable
+pub mod Vocabulary
+pub mod Cases
+pub mod Chains
+pub mod Distinct
+pub mod Places
+pub mod Appending
+pub mod Walking
+pub mod Looking
+pub mod Finding

@@ -1,0 +1,4 @@
+pub mod Terms
+pub mod Layout
+pub mod Dictionary
+pub mod Calls
