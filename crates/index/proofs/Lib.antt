@@ -1,5 +1,6 @@
 pub mod Choice
 pub mod Equality
+pub mod Rows
 pub mod Decoding
 pub mod Holding
 pub mod Reachable
