@@ -1,6 +1,7 @@
 pub mod Choice
 pub mod Equality
 pub mod Rows
+pub mod Digests
 pub mod Decoding
 pub mod Holding
 pub mod Reachable
