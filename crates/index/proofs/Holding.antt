@@ -4,7 +4,7 @@ use mathlib.Core.Logic.{_⊎_, inl, inr}
 use mathlib.Core.Bool.{Bool, true, false, _&&_}
 use mathlib.Core.Option.{Option, some, none}
 use mathlib.Core.List.{List, [], _∷_, _++_, append-assoc, append-nil}
-use Prim.Native.Nat.{ℕ, suc, _+_, _*_, _≤_}
+use Prim.Native.Nat.{ℕ, suc, _+_, _*_, _-_, _%_, _≤_}
 use native.Mathlib.Omega.{arith}
 use lib.Dec.{T, leb, eqb, leb→le, eqb→eq}
 use lib.ListN.{length}
@@ -183,3 +183,11 @@ unfolding valid
 valid→ d h =
     let (a, b) = and→ (holdable (length (d .table)) (length (d .arena)) (decode d)) (same-dict (layout (length (d .table)) (length (d .arena)) (decode d)) d) h in
     (holds→ (length (d .table)) (length (d .arena)) (decode d) a, same-dict→ (layout (length (d .table)) (length (d .arena)) (decode d)) d b)
+
+-- a well-sized table has at most 65,535 entries, and an arena at most 1,048,576 bytes
+pub sized→ : (tl al : ℕ) → T (sized tl al) → (tl ≤ 262204) × (al ≤ 1048576)
+sized→ tl al h =
+    let (a, k) = and→ (leb 64 tl) (eqb ((tl - 64) % 4) 0 && (leb tl 262204 && leb al 1048576)) h in
+    let (b, l) = and→ (eqb ((tl - 64) % 4) 0) (leb tl 262204 && leb al 1048576) k in
+    let (c, m) = and→ (leb tl 262204) (leb al 1048576) l in
+    (leb→le tl 262204 c, leb→le al 1048576 m)

@@ -9,8 +9,7 @@ pub mod Vocabulary
 pub mod Cases
 pub mod Chains
 pub mod Distinct
-pub mod Places
 pub mod Appending
+pub mod Reading
 pub mod Walking
-pub mod Looking
 pub mod Finding

@@ -1,5 +1,6 @@
 // The dictionary, as index.rs has it.
 mod bytes;
+mod entry;
 mod hash;
 
 pub struct Counters {
