@@ -161,9 +161,12 @@ all-entries-at (t ∷ ts) z (suc k) h =
     (entries-at (t ∷ ts) (t ∷ []) ts 1 (length (t .bytes)) (λ c. 0) z refl refl (zero-prev t ts) k h₂))
 
 -- WHAT A TABLE HOLDS: the head of the chain c, and the entry of the id k
-pub table-head : (tl al : ℕ) (ts : List Term) (c : ℕ) → c < 64 → getD (layout tl al ts .table) c 0 ≡ prev ts c (length ts)
+pub head-of : (tl al : ℕ) (ts : List Term) (c : ℕ) → c < 64 → getD (layout tl al ts .table) c 0 ≡ all-heads ts c
 unfolding layout
-table-head tl al ts c h = let q : 0 + c ≡ c = omega arith in span-at 64 0 (all-heads ts) (all-entries ts ++ replicate (tl - (64 + 4 * length ts)) 0) c h ∙ (ap (all-heads ts) q ∙ all-heads-prev ts c)
+head-of tl al ts c h = let q : 0 + c ≡ c = omega arith in span-at 64 0 (all-heads ts) (all-entries ts ++ replicate (tl - (64 + 4 * length ts)) 0) c h ∙ ap (all-heads ts) q
+
+pub table-head : (tl al : ℕ) (ts : List Term) (c : ℕ) → c < 64 → getD (layout tl al ts .table) c 0 ≡ prev ts c (length ts)
+table-head tl al ts c h = head-of tl al ts c h ∙ all-heads-prev ts c
 
 pub table-entry : (tl al : ℕ) (ts : List Term) (k : ℕ) → k < length ts → Entry (drop 64 (layout tl al ts .table)) k (size (take k ts)) (length (getD ts k no-term .bytes)) (getD ts k no-term .kind) (prev ts (chain (getD ts k no-term)) k)
 unfolding layout

@@ -6,7 +6,7 @@ use native.Mathlib.Omega.{arith}
 use native.Mathlib.Numerals.{add-one}
 use lib.ListN.{length, getD, drop, drop-of-length-le}
 use lib.Seq.{drop-cons}
-use Rattle.index.specs.declared.Digest.{Digest}
+use Rattle.index.specs.declared.values.Digest.{Digest}
 use Rattle.index.specs.Terms.{Term, term}
 use Rattle.index.specs.Layout.{sum, chain}
 use Rattle.index.specs.Digest.{hash-from, bucket, digest-of}

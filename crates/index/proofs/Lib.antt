@@ -13,3 +13,5 @@ pub mod Appending
 pub mod Reading
 pub mod Walking
 pub mod Finding
+pub mod Putting
+pub mod Looking

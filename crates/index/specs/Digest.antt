@@ -3,7 +3,7 @@
 -- below 65,536 would serve. Assumes nothing.
 use mathlib.Core.List.{List, [], _∷_}
 use Prim.Native.Nat.{ℕ, _+_, _*_, _/_, _%_}
-use Rattle.index.specs.declared.Digest.{Digest}
+use Rattle.index.specs.declared.values.Digest.{Digest}
 use Rattle.index.specs.Terms.{Term}
 use Rattle.index.specs.Layout.{chain}
 

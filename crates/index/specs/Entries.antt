@@ -4,12 +4,12 @@ use mathlib.Core.Path.{_≡_}
 use mathlib.Core.Bool.{Bool}
 use mathlib.Core.List.{List}
 use mathlib.Core.Option.{Option, some, none}
-use Prim.Native.Nat.{ℕ, _+_, _*_, _≤_}
+use Prim.Native.Nat.{ℕ, _+_, _*_, _≤_, _<_}
 use lib.Dec.{T, ltb}
 use lib.ListN.{length, getD, take, drop}
 use Rattle.common.specs.Triples.{if}
 use Rattle.index.specs.Terms.{Term, term}
-use Rattle.index.specs.Layout.{Dict, chain}
+use Rattle.index.specs.Layout.{Dict, chain, layout, decode}
 use Rattle.index.specs.Dictionary.{valid}
 
 -- the four numbers of the entry of an id
@@ -41,4 +41,14 @@ id-below id count = if (ltb id count) (λ _. some id) (λ _. none)
 -- a dictionary that is not broken, and the chain of a term
 pub record Chained (d : Dict) (t : Term) (c : ℕ) : Type 0 where
   pub unbroken : T (valid d)
+  pub chained : c ≡ chain t
+
+-- room for one term more in contents that are a layout: what appending it needs
+pub record Appendable (d : Dict) (t : Term) (c : ℕ) : Type 0 where
+  pub laid : layout (length (d .table)) (length (d .arena)) (decode d) ≡ d
+  pub some : 0 < d .terms
+  pub entry : 64 + 4 * (d .terms + 1) ≤ length (d .table)
+  pub table : length (d .table) ≤ 262204
+  pub bytes : d .used + length (t .bytes) ≤ length (d .arena)
+  pub arena : length (d .arena) ≤ 1048576
   pub chained : c ≡ chain t

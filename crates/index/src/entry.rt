@@ -1,6 +1,6 @@
 // Entries: compared with a term, found by their chain, located in the arena.
-use crate::Counters;
 use crate::bytes::same_bytes;
+use crate::values::Counters;
 ghost use mathlib.Core.Path.{_≡_};
 ghost use Rattle.index.specs.Terms.{term};
 ghost use Rattle.index.specs.Layout.{decode};

@@ -1,5 +1,5 @@
 // A term's chain and bucket.
-use crate::Digest;
+use crate::values::Digest;
 ghost use mathlib.Core.Path.{_≡_};
 ghost use Prim.Native.Nat.{_≤_};
 ghost use lib.ListN.{length};

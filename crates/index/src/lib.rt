@@ -1,15 +1,15 @@
 // The dictionary, as index.rs has it.
+mod append;
 mod bytes;
 mod entry;
 mod hash;
+mod inner;
+mod values;
 
-pub struct Counters {
-    pub terms: u32,
-    pub used: u32,
-}
-
-// A term's chain, and its bucket in the hash of the test for a broken dictionary.
-pub struct Digest {
-    pub chain: usize,
-    pub bucket: usize,
-}
+pub use inner::locate;
+pub use inner::put_valid;
+pub use values::Counters;
+pub use values::Located;
+pub use values::Put;
+pub use values::PutNext;
+pub use values::Started;

@@ -1,0 +1,45 @@
+-- What a lookup gives where the contents are valid, as the code finds it. Assumes nothing.
+use mathlib.Core.Path.{_≡_, sym, _∙_, ap}
+use mathlib.Core.List.{List, []}
+use Prim.Native.Nat.{ℕ, _+_, _-_, _≤_, _<_}
+use native.Mathlib.Omega.{arith}
+use lib.Dec.{T, ltb, ltb→lt, lt→ltb}
+use lib.ListN.{length, take, drop}
+use Rattle.common.specs.Start.{start}
+use Rattle.index.specs.Terms.{Term}
+use Rattle.index.specs.Layout.{Dict, decode}
+use Rattle.index.specs.Dictionary.{lookup-answer, term-of, reckon-lookup, valid}
+use Rattle.index.specs.Calls.{lookup-gives}
+use Rattle.index.specs.Entries.{start-of, length-of, kind-of}
+use Rattle.index.specs.Values.{Locates}
+use Rattle.index.proofs.Choice.{if-yes, if-no}
+use Rattle.index.proofs.Reachable.{lookup-valid}
+use Rattle.index.proofs.Cases.{answers}
+use Rattle.index.proofs.Reading.{count, entry-names, entry-fits}
+
+module _ (ts : List Term) (i : ℕ) where
+  pub reckon-12 : length ts ≤ i → reckon-lookup ts i ≡ lookup-answer 12 0 []
+  unfolding reckon-lookup
+  reckon-12 h = if-no (ltb i (length ts)) (λ _. lookup-answer 0 (term-of ts i .kind) (term-of ts i .bytes)) (λ _. lookup-answer 12 0 []) (λ t. let q = ltb→lt i (length ts) t in omega arith)
+
+  pub reckon-known : i < length ts → reckon-lookup ts i ≡ lookup-answer 0 (term-of ts i .kind) (term-of ts i .bytes)
+  unfolding reckon-lookup
+  reckon-known h = if-yes (ltb i (length ts)) (λ _. lookup-answer 0 (term-of ts i .kind) (term-of ts i .bytes)) (λ _. lookup-answer 12 0 []) (lt→ltb i (length ts) h)
+
+module _ (d : Dict) (v : T (valid d)) (i : ℕ) where
+  -- no such id
+  pub look-12 : d .terms ≤ i → Locates (record { number = 12; kind = 0; start = 0; end = 0 }) (d .arena) (lookup-gives d i)
+  look-12 h = record { answers = sym (lookup-valid d i v ∙ reckon-12 (decode d) i (omega (arith, count d v))); ordered = omega arith; within = omega arith }
+
+  -- the part that the entry names
+  pub look-known : i < d .terms → Locates (record { number = 0; kind = kind-of (d .table) i; start = start-of (d .table) i; end = start-of (d .table) i + length-of (d .table) i }) (d .arena) (lookup-gives d i)
+  look-known h =
+      let q : start-of (d .table) i + length-of (d .table) i - start-of (d .table) i ≡ length-of (d .table) i = omega arith in
+      let e = entry-names d v i h in
+      record {
+        answers =
+            ap (λ (n : ℕ). lookup-answer 0 (kind-of (d .table) i) (take n (drop (start-of (d .table) i) (d .arena)))) q
+            ∙ (ap (λ (t : Term). lookup-answer 0 (t .kind) (t .bytes)) e ∙ sym (lookup-valid d i v ∙ reckon-known (decode d) i (omega (arith, count d v))));
+        ordered = omega arith;
+        within = entry-fits d v i h .part;
+      }
