@@ -169,7 +169,6 @@ appended d t c h =
     ap (stored d t) (h .chained)
     ∙ subst (λ (x : Dict). stored x t (chain t) ≡ layout tl al (decode d ++ (t ∷ []))) (h .laid) (stored-terms tl al (decode d) t (omega (arith, n, h .some)) (omega (arith, n, h .entry)))
 
-
 -- by the stores that the code makes
 pub four-stores : (l : List ℕ) (at a b c d : ℕ) → set (set (set (set l at a) (at + 1) b) (at + 2) c) (at + 3) d ≡ sets l at (four a b c d)
 four-stores l at a b c d =

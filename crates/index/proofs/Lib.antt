@@ -15,3 +15,4 @@ pub mod Walking
 pub mod Finding
 pub mod Putting
 pub mod Looking
+pub mod ContainerTerms

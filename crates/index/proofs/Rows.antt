@@ -1,4 +1,18 @@
 -- Rows of numbers: what comparing, clearing and copying them place by place comes to. Assumes nothing.
+use mathlib.Core.Path.{_≡_, refl, sym, _∙_, ap, subst}
+use mathlib.Core.Logic.{_≢_}
+use mathlib.Core.Bool.{Bool, true, false}
+use mathlib.Core.List.{List}
+use Prim.Native.Nat.{ℕ, zero, suc, _+_, _-_, _≤_, _<_}
+use native.Mathlib.Omega.{arith}
+use native.Mathlib.Numerals.{add-one}
+use native.Mathlib.Decide.{ℕ-discrete}
+use lib.Dec.{T}
+use lib.ListN.{length, getD, take, drop, set, replicate, length-replicate, length-drop, length-set}
+use lib.Seq.{paste, paste-zero, paste-suc, take-all, getD-set-same, getD-set-other, ext-getD}
+use Rattle.index.specs.Dictionary.{same-row}
+use Rattle.index.proofs.Choice.{is-true, is-false}
+use Rattle.index.proofs.Equality.{same-row-refl, same-row→}
 
 -- the first i places agree
 use mathlib.Core.Path.{_≡_, refl, sym, _∙_, ap, subst}
@@ -53,6 +67,10 @@ module _ (a : List ℕ) where
   -- a row that is zero at every place is a row of zeros
   pub told-zeros : Zeros (length a) a → true ≡ same-row a (replicate (length a) 0)
   told-zeros f = all-agree a (replicate (length a) 0) (sym (length-replicate (length a) 0)) (λ k h. f k h ∙ sym (zeros-at (length a) k))
+
+-- the part of a row from a place to its end
+pub rest-part : (n : ℕ) (a : List ℕ) → take (length a - n) (drop n a) ≡ drop n a
+rest-part n a = take-all (length a - n) (drop n a) (omega (arith, length-drop n a))
 
 -- CLEARED up to i: nothing but zeros, and the length is kept
 pub record Cleared (a₀ : List ℕ) (a : List ℕ) (i : ℕ) : Type 0 where

@@ -18,8 +18,11 @@ contents t a c = dict t a (c .terms) (c .used)
 abbrev pub put-left : PutNext → List ℕ → List ℕ → Put-result
 put-left r t a = put-result (r .number) (r .id .0) (contents t a (r .counters))
 
--- where a lookup's part lies in the arena, with the number and the kind
+-- the answer of a lookup whose part lies at a place of the arena
+abbrev pub located : Located → List ℕ → Lookup-answer
+located r arena = lookup-answer (r .number) (r .kind) (take (r .end - r .start) (drop (r .start) arena))
+
 pub record Locates (r : Located) (arena : List ℕ) (answer : Lookup-answer) : Type 0 where
-  pub answers : lookup-answer (r .number) (r .kind) (take (r .end - r .start) (drop (r .start) arena)) ≡ answer
+  pub answers : located r arena ≡ answer
   pub ordered : r .start ≤ r .end
   pub within : r .end ≤ length arena

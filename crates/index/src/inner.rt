@@ -7,11 +7,13 @@ use crate::values::Located;
 use crate::values::PutNext;
 use common::Id;
 ghost use mathlib.Core.Path.{_≡_};
+ghost use Prim.Native.Nat.{_≤_};
 ghost use lib.Dec.{T};
+ghost use lib.ListN.{length};
 ghost use Rattle.index.specs.Terms.{term};
-ghost use Rattle.index.specs.Dictionary.{valid};
+ghost use Rattle.index.specs.Dictionary.{valid, lookup-answer};
 ghost use Rattle.index.specs.Calls.{put-gives, lookup-gives};
-ghost use Rattle.index.specs.Values.{contents, put-left, Locates};
+ghost use Rattle.index.specs.Values.{contents, put-left, located, Locates};
 
 // A refusal leaves the counters as they are.
 pub fn refused(number: u32, counters: Counters) -> PutNext
@@ -88,4 +90,32 @@ pub fn locate(table: &[u32], arena: &[u8], counters: Counters, id: Id) -> Locate
         start,
         end,
     }
+}
+
+// The part of the arena that was located, with the number and the kind.
+pub fn part<'a>(arena: &'a [u8], place: Located, number: &mut u32, kind: &mut u32) -> &'a [u8]
+    requires { ⌜ (place .start ≤ place .end) × (place .end ≤ length (now arena)) ⌝ }
+    ensures { λ r. ⌜ lookup-answer (now (number .exit)) (now (kind .exit)) (now r) ≡ located place (now (arena .entry)) ⌝ }
+{
+    *number = place.number;
+    *kind = place.kind;
+    let start = place.start;
+    let end = place.end;
+    &arena[start..end]
+}
+
+// Lookup without the test for a broken dictionary.
+pub fn lookup_valid<'a>(
+    table: &[u32],
+    arena: &'a [u8],
+    counters: Counters,
+    id: Id,
+    number: &mut u32,
+    kind: &mut u32,
+) -> &'a [u8]
+    requires { ⌜ T (valid (contents (now table) (now arena) counters)) ⌝ }
+    ensures { λ r. ⌜ lookup-answer (now (number .exit)) (now (kind .exit)) (now r) ≡ lookup-gives (contents (now (table .entry)) (now (arena .entry)) counters) (id .0) ⌝ }
+{
+    let place = locate(table, arena, counters, id);
+    part(arena, place, number, kind)
 }

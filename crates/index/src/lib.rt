@@ -1,12 +1,15 @@
 // The dictionary, as index.rs has it.
 mod append;
 mod bytes;
+mod container;
 mod entry;
 mod hash;
 mod inner;
 mod values;
 
+pub use container::is_container;
 pub use inner::locate;
+pub use inner::lookup_valid;
 pub use inner::put_valid;
 pub use values::Counters;
 pub use values::Located;
