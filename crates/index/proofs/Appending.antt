@@ -65,13 +65,13 @@ head-set : (H : ℕ → ℕ) (c v : ℕ) → c < 64 → set (span 64 0 H) c v �
 head-set H c v h = let q : 0 + c ≡ c = omega arith in span-set 64 0 H (front H c v) c v h (front-same H c v ∙ ap (front H c v) (sym q)) (λ x n. front-other H c v x (λ e. n (e ∙ sym q)))
 
 -- four numbers stored behind p
-four-set : (p z : List ℕ) (k a b c d : ℕ) → length p ≡ k → sets (p ++ (0 ∷ 0 ∷ 0 ∷ 0 ∷ z)) k (four a b c d) ≡ p ++ (a ∷ b ∷ c ∷ d ∷ z)
+pub four-set : (p z : List ℕ) (k a b c d : ℕ) → length p ≡ k → sets (p ++ (0 ∷ 0 ∷ 0 ∷ 0 ∷ z)) k (four a b c d) ≡ p ++ (a ∷ b ∷ c ∷ d ∷ z)
 four-set p z k a b c d e =
     sets-eq (four a b c d) (p ++ (0 ∷ 0 ∷ 0 ∷ 0 ∷ z)) k (omega (arith, length-append p (0 ∷ 0 ∷ 0 ∷ 0 ∷ z)))
     ∙ (ap₂ (λ (x y : List ℕ). x ++ four a b c d ++ y) (take-at p (0 ∷ 0 ∷ 0 ∷ 0 ∷ z) k e) (ap (λ (j : ℕ). drop (j + 4) (p ++ (0 ∷ 0 ∷ 0 ∷ 0 ∷ z))) (sym e) ∙ drop-append-add p (0 ∷ 0 ∷ 0 ∷ 0 ∷ z) 4)
     ∙ append-assoc p (four a b c d) z)
 
-drop-zeros : (n m : ℕ) → drop n (replicate m 0) ≡ replicate {A = ℕ} (m - n) 0
+pub drop-zeros : (n m : ℕ) → drop n (replicate m 0) ≡ replicate {A = ℕ} (m - n) 0
 drop-zeros zero m = let q : m ≡ m - 0 = omega arith in ap (λ (k : ℕ). replicate {A = ℕ} k 0) q
 drop-zeros (suc n) zero = let q : 0 ≡ 0 - suc n = omega arith in ap (λ (k : ℕ). replicate {A = ℕ} k 0) q
 drop-zeros (suc n) (suc m) = let q : m - n ≡ suc m - suc n = omega arith in drop-zeros n m ∙ ap (λ (k : ℕ). replicate {A = ℕ} k 0) q

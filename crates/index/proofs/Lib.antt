@@ -11,6 +11,7 @@ pub mod Chains
 pub mod Distinct
 pub mod Appending
 pub mod Reading
+pub mod Starting
 pub mod Walking
 pub mod Finding
 pub mod Putting

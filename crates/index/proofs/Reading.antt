@@ -37,7 +37,7 @@ entry-is table k a l m n e = record {
     place r = let q : 64 + 4 * k + r ≡ 64 + (4 * k + r) = omega arith in ap (λ (j : ℕ). getD table j 0) q
 
 -- terms up to a place take no more bytes than all of them
-size-upto : (ts : List Term) (k : ℕ) → k < length ts → size (take k ts) + length (term-of ts k .bytes) ≤ size ts
+pub size-upto : (ts : List Term) (k : ℕ) → k < length ts → size (take k ts) + length (term-of ts k .bytes) ≤ size ts
 size-upto ts k h = omega (arith, size-append (take k ts) (term-of ts k ∷ drop (suc k) ts), ap size (split-at ts k no-term h))
 
 module _ (d : Dict) (v : T (valid d)) where

@@ -13,7 +13,6 @@ use lib.Seq.{paste, paste-zero, paste-suc, take-all, getD-set-same, getD-set-oth
 use Rattle.index.specs.Dictionary.{same-row}
 use Rattle.index.proofs.Choice.{is-true, is-false}
 use Rattle.index.proofs.Equality.{same-row-refl, same-row→}
-
 -- the first i places agree
 use mathlib.Core.Path.{_≡_, refl, sym, _∙_, ap, subst}
 use mathlib.Core.Logic.{_≢_}

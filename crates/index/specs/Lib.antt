@@ -3,5 +3,6 @@ pub mod Layout
 pub mod Dictionary
 pub mod Calls
 pub mod Entries
+pub mod Starting
 pub mod Values
 pub mod Digest

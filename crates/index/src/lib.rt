@@ -4,6 +4,7 @@ mod bytes;
 mod container;
 mod entry;
 mod hash;
+mod initial;
 mod inner;
 mod values;
 
