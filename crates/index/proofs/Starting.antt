@@ -6,7 +6,7 @@ use mathlib.Core.List.{List, [], _∷_, _++_}
 use Prim.Native.Nat.{ℕ, zero, suc, _+_, _*_, _-_, _≤_}
 use native.Mathlib.Omega.{arith}
 use native.Mathlib.Numerals.{add-one}
-use lib.Dec.{T, leb, leb→le}
+use lib.Dec.{T, leb, ltb, leb→le, ltb→lt}
 use lib.ListN.{length, take, drop, replicate, replicate-append-replicate}
 use lib.Seq.{sets, paste, take-at, take-length, take-suc, length-take-le, length-paste, take-paste}
 use Rattle.common.specs.Text.{text}
@@ -126,3 +126,7 @@ blank-done {table} {arena} {table'} {arena'} b tl al e f =
 
 pub joined-by : (z p q : List ℕ) {z' z'' : List ℕ} → length p + length q ≤ length z → z' ≡ paste z 0 p (length p) → z'' ≡ paste z' (length p) q (length q) → take (length p + length q) z'' ≡ p ++ q
 joined-by z p q h e f = ap (take (length p + length q)) (f ∙ ap (λ (x : List ℕ). paste x (length p) q (length q)) e) ∙ joined z p q h
+
+-- the next term, by its id and its IRI
+pub next-is : {d : Dict} (id : ℕ) {iri : List ℕ} → Upto d id → T (ltb 0 id) → T (ltb id 31) → term-of start-terms id ≡ term 1 iri → Next d id iri
+next-is id u a b e = record { before = u; later = ltb→lt 0 id a; below = ltb→lt id 31 b; is = e }

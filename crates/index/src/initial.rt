@@ -94,3 +94,84 @@ fn owl(table: &mut [u32], arena: &mut [u8], counters: Counters, id: Id, name: &[
         name,
     )
 }
+
+// Ids 1 to 8: the terms of rdf and rdfs.
+fn enter_rdf(table: &mut [u32], arena: &mut [u8], counters: Counters) -> Counters
+    requires { ⌜ Upto (contents (now table) (now arena) counters) 1 ⌝ }
+    ensures { λ r. ⌜ Upto (contents (now (table .exit)) (now (arena .exit)) r) 9 ⌝ }
+{
+    let id = Vocab::RDF_TYPE;
+    let c = rdf(table, arena, counters, id, b"type");
+    let id = Vocab::RDF_FIRST;
+    let c = rdf(table, arena, c, id, b"first");
+    let id = Vocab::RDF_REST;
+    let c = rdf(table, arena, c, id, b"rest");
+    let id = Vocab::RDF_NIL;
+    let c = rdf(table, arena, c, id, b"nil");
+    let id = Vocab::RDFS_DOMAIN;
+    let c = rdfs(table, arena, c, id, b"domain");
+    let id = Vocab::RDFS_RANGE;
+    let c = rdfs(table, arena, c, id, b"range");
+    let id = Vocab::RDFS_SUB_PROPERTY_OF;
+    let c = rdfs(table, arena, c, id, b"subPropertyOf");
+    let id = Vocab::RDFS_SUB_CLASS_OF;
+    rdfs(table, arena, c, id, b"subClassOf")
+}
+
+// Ids 9 to 20.
+fn enter_classes(table: &mut [u32], arena: &mut [u8], counters: Counters) -> Counters
+    requires { ⌜ Upto (contents (now table) (now arena) counters) 9 ⌝ }
+    ensures { λ r. ⌜ Upto (contents (now (table .exit)) (now (arena .exit)) r) 21 ⌝ }
+{
+    let id = Vocab::OWL_THING;
+    let c = owl(table, arena, counters, id, b"Thing");
+    let id = Vocab::OWL_NOTHING;
+    let c = owl(table, arena, c, id, b"Nothing");
+    let id = Vocab::OWL_SAME_AS;
+    let c = owl(table, arena, c, id, b"sameAs");
+    let id = Vocab::OWL_INVERSE_OF;
+    let c = owl(table, arena, c, id, b"inverseOf");
+    let id = Vocab::OWL_SYMMETRIC_PROPERTY;
+    let c = owl(table, arena, c, id, b"SymmetricProperty");
+    let id = Vocab::OWL_IRREFLEXIVE_PROPERTY;
+    let c = owl(table, arena, c, id, b"IrreflexiveProperty");
+    let id = Vocab::OWL_ASYMMETRIC_PROPERTY;
+    let c = owl(table, arena, c, id, b"AsymmetricProperty");
+    let id = Vocab::OWL_TRANSITIVE_PROPERTY;
+    let c = owl(table, arena, c, id, b"TransitiveProperty");
+    let id = Vocab::OWL_EQUIVALENT_PROPERTY;
+    let c = owl(table, arena, c, id, b"equivalentProperty");
+    let id = Vocab::OWL_EQUIVALENT_CLASS;
+    let c = owl(table, arena, c, id, b"equivalentClass");
+    let id = Vocab::OWL_FUNCTIONAL_PROPERTY;
+    let c = owl(table, arena, c, id, b"FunctionalProperty");
+    let id = Vocab::OWL_INVERSE_FUNCTIONAL_PROPERTY;
+    owl(table, arena, c, id, b"InverseFunctionalProperty")
+}
+
+// Ids 21 to 30.
+fn enter_relations(table: &mut [u32], arena: &mut [u8], counters: Counters) -> Counters
+    requires { ⌜ Upto (contents (now table) (now arena) counters) 21 ⌝ }
+    ensures { λ r. ⌜ Upto (contents (now (table .exit)) (now (arena .exit)) r) 31 ⌝ }
+{
+    let id = Vocab::OWL_INTERSECTION_OF;
+    let c = owl(table, arena, counters, id, b"intersectionOf");
+    let id = Vocab::OWL_UNION_OF;
+    let c = owl(table, arena, c, id, b"unionOf");
+    let id = Vocab::OWL_HAS_VALUE;
+    let c = owl(table, arena, c, id, b"hasValue");
+    let id = Vocab::OWL_ALL_VALUES_FROM;
+    let c = owl(table, arena, c, id, b"allValuesFrom");
+    let id = Vocab::OWL_SOME_VALUES_FROM;
+    let c = owl(table, arena, c, id, b"someValuesFrom");
+    let id = Vocab::OWL_DISJOINT_WITH;
+    let c = owl(table, arena, c, id, b"disjointWith");
+    let id = Vocab::OWL_ON_PROPERTY;
+    let c = owl(table, arena, c, id, b"onProperty");
+    let id = Vocab::OWL_COMPLEMENT_OF;
+    let c = owl(table, arena, c, id, b"complementOf");
+    let id = Vocab::OWL_PROPERTY_DISJOINT_WITH;
+    let c = owl(table, arena, c, id, b"propertyDisjointWith");
+    let id = Vocab::OWL_CLASS;
+    owl(table, arena, c, id, b"Class")
+}
