@@ -73,14 +73,14 @@ module _ (d : Dict) (v : T (valid d)) where
   lengths =
       let h = held in
       let (f, g) = holds-fits (length (d .table)) (length (d .arena)) (decode d) h in
-      let (a, b) = sized→ (length (d .table)) (length (d .arena)) (h .sizes) in
+      let s = sized→ (length (d .table)) (length (d .arena)) (h .sizes) in
       record {
         some = omega (arith, count, ap (λ (x : List Term). length x) (h .whole), length-append start-terms (h .more));
-        few = omega (arith, count);
+        few = omega (arith, count, s .high);
         entries = omega (arith, count);
-        table = a;
+        table = s .high;
         bytes = omega (arith, bytes-used);
-        arena = b;
+        arena = s .arena;
       }
 
   -- the head of a chain is its last id

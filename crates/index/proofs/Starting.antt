@@ -7,17 +7,20 @@ use Prim.Native.Nat.{ℕ, zero, suc, _+_, _*_, _-_, _≤_}
 use native.Mathlib.Omega.{arith}
 use native.Mathlib.Numerals.{add-one}
 use lib.Dec.{T, leb, ltb, leb→le, ltb→lt}
-use lib.ListN.{length, take, drop, replicate, replicate-append-replicate}
+use lib.ListN.{length, take, drop, replicate, length-replicate, replicate-append-replicate}
 use lib.Seq.{sets, paste, take-at, take-length, take-suc, length-take-le, length-paste, take-paste}
 use Rattle.common.specs.Text.{text}
 use Rattle.common.specs.Vocabulary.{first}
 use Rattle.common.proofs.Lists.{and→}
 use Rattle.index.specs.Terms.{Term, term, no-term, start-terms}
 use Rattle.index.specs.Layout.{Dict, dict, chain, size, heads, entries, span, layout, decode}
-use Rattle.index.specs.Dictionary.{term-of}
+use Rattle.index.specs.Dictionary.{term-of, start-refusal}
+use Rattle.index.specs.Calls.{start-result, start-gives}
 use Rattle.index.specs.Entries.{Appendable}
 use Rattle.index.specs.Starting.{Upto, Next, Blank}
 use Rattle.index.proofs.Decoding.{decode-layout}
+use Rattle.index.proofs.Holding.{sized→, start-fits→}
+use Rattle.index.proofs.Reachable.{refusal-none, start-accepts}
 use Rattle.index.proofs.Appending.{four, four-set, drop-zeros}
 use Rattle.index.proofs.Reading.{size-upto, entry}
 
@@ -130,3 +133,25 @@ joined-by z p q h e f = ap (take (length p + length q)) (f ∙ ap (λ (x : List 
 -- the next term, by its id and its IRI
 pub next-is : {d : Dict} (id : ℕ) {iri : List ℕ} → Upto d id → T (ltb 0 id) → T (ltb id 31) → term-of start-terms id ≡ term 1 iri → Next d id iri
 next-is id u a b e = record { before = u; later = ltb→lt 0 id a; below = ltb→lt id 31 b; is = e }
+
+-- ALL OF THEM
+pub all-entered : {d : Dict} {tl al : ℕ} → Upto d 31 → length (d .table) ≡ tl → length (d .arena) ≡ al → d ≡ layout tl al start-terms
+unfolding start-terms
+all-entered u a b = u .laid ∙ (λ i. layout (a i) (b i) start-terms)
+
+-- cleared buffers that a start accepts
+pub blank-cleared : (tl al : ℕ) {table arena : List ℕ} → start-refusal tl al ≡ 0 → table ≡ replicate tl 0 → arena ≡ replicate al 0 → Blank table arena
+blank-cleared tl al {table} {arena} e f g =
+    let (s, r) = refusal-none tl al e in
+    let w = sized→ tl al s in
+    let (m, n) = start-fits→ tl al r in
+    let p : length table ≡ tl = ap (λ (l : List ℕ). length l) f ∙ length-replicate tl 0 in
+    let q : length arena ≡ al = ap (λ (l : List ℕ). length l) g ∙ length-replicate al 0 in
+    record {
+      room = record { entries = omega arith; table-limit = omega (arith, w .high); bytes = omega arith; arena-limit = omega (arith, w .arena) };
+      table-zero = f ∙ ap zeros (sym p);
+      arena-zero = g ∙ ap zeros (sym q);
+    }
+
+pub start-done : (table arena : List ℕ) {tl al : ℕ} {d : Dict} → start-refusal (length table) (length arena) ≡ 0 → tl ≡ length table → al ≡ length arena → d ≡ layout tl al start-terms → start-result 0 d ≡ start-gives table arena
+start-done table arena e f g h = ap (start-result 0) (h ∙ (λ i. layout (f i) (g i) start-terms)) ∙ sym (start-accepts table arena e)

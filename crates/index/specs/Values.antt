@@ -6,13 +6,18 @@ use lib.ListN.{length, take, drop}
 use Rattle.index.specs.declared.values.Counters.{Counters}
 use Rattle.index.specs.declared.values.Located.{Located}
 use Rattle.index.specs.declared.values.PutNext.{PutNext}
+use Rattle.index.specs.declared.values.Started.{Started}
 use Rattle.index.specs.Layout.{Dict, dict}
 use Rattle.index.specs.Dictionary.{Lookup-answer, lookup-answer}
-use Rattle.index.specs.Calls.{Put-result, put-result}
+use Rattle.index.specs.Calls.{Start-result, start-result, Put-result, put-result}
 
 -- a table, an arena and the counters
 abbrev pub contents : List ℕ → List ℕ → Counters → Dict
 contents t a c = dict t a (c .terms) (c .used)
+
+-- the answer of a start, with the table and the arena as they are left
+abbrev pub start-left : Started → List ℕ → List ℕ → Start-result
+start-left r t a = start-result (r .number) (contents t a (r .counters))
 
 -- the answer of a put, with the table and the arena as they are left
 abbrev pub put-left : PutNext → List ℕ → List ℕ → Put-result

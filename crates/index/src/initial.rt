@@ -11,6 +11,9 @@ ghost use mathlib.Core.List.{_++_};
 ghost use Prim.Native.Nat.{_+_};
 ghost use Rattle.common.specs.Text.{text};
 ghost use lib.ListN.{length};
+ghost use Rattle.index.specs.Terms.{start-terms};
+ghost use Rattle.index.specs.Layout.{layout};
+ghost use Rattle.index.specs.Dictionary.{start-refusal};
 ghost use Rattle.index.specs.Starting.{Upto, Next, Blank};
 ghost use Rattle.index.specs.Values.{contents};
 
@@ -174,4 +177,40 @@ fn enter_relations(table: &mut [u32], arena: &mut [u8], counters: Counters) -> C
     let c = owl(table, arena, c, id, b"propertyDisjointWith");
     let id = Vocab::OWL_CLASS;
     owl(table, arena, c, id, b"Class")
+}
+
+// All of them, in a table and an arena of zeros.
+pub fn enter_all(table: &mut [u32], arena: &mut [u8]) -> Counters
+    requires { ⌜ Blank (now table) (now arena) ⌝ }
+    ensures { λ r. ⌜ contents (now (table .exit)) (now (arena .exit)) r ≡ layout (length (now (table .entry))) (length (now (arena .entry))) start-terms ⌝ }
+{
+    let c = enter_blank(table, arena);
+    let c = enter_rdf(table, arena, c);
+    let c = enter_classes(table, arena, c);
+    enter_relations(table, arena, c)
+}
+
+// The number of a start's refusal for a table and an arena of these lengths, or 0.
+pub fn refusal(table: usize, arena: usize) -> u32
+    ensures { λ r. ⌜ r ≡ start-refusal table arena ⌝ }
+{
+    if table < 64 {
+        return 4;
+    }
+    if (table - 64) % 4 != 0 {
+        return 4;
+    }
+    if 262204 < table {
+        return 4;
+    }
+    if 1048576 < arena {
+        return 4;
+    }
+    if table < 188 {
+        return 7;
+    }
+    if arena < 1325 {
+        return 7;
+    }
+    0
 }
