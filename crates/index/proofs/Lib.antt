@@ -15,5 +15,6 @@ pub mod Starting
 pub mod Walking
 pub mod Finding
 pub mod Putting
+pub mod Hashing
 pub mod Looking
 pub mod ContainerTerms

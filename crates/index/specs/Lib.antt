@@ -6,3 +6,4 @@ pub mod Entries
 pub mod Starting
 pub mod Values
 pub mod Digest
+pub mod Scanning
