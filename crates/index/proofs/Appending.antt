@@ -61,7 +61,7 @@ front-other H c v x n = go (eqb x c) (eqb→eq x c)
     go true e = absurd (n (e tt))
     go false e = refl
 
-head-set : (H : ℕ → ℕ) (c v : ℕ) → c < 64 → set (span 64 0 H) c v ≡ span 64 0 (front H c v)
+pub head-set : (H : ℕ → ℕ) (c v : ℕ) → c < 64 → set (span 64 0 H) c v ≡ span 64 0 (front H c v)
 head-set H c v h = let q : 0 + c ≡ c = omega arith in span-set 64 0 H (front H c v) c v h (front-same H c v ∙ ap (front H c v) (sym q)) (λ x n. front-other H c v x (λ e. n (e ∙ sym q)))
 
 -- four numbers stored behind p
@@ -76,10 +76,10 @@ drop-zeros zero m = let q : m ≡ m - 0 = omega arith in ap (λ (k : ℕ). repli
 drop-zeros (suc n) zero = let q : 0 ≡ 0 - suc n = omega arith in ap (λ (k : ℕ). replicate {A = ℕ} k 0) q
 drop-zeros (suc n) (suc m) = let q : m - n ≡ suc m - suc n = omega arith in drop-zeros n m ∙ ap (λ (k : ℕ). replicate {A = ℕ} k 0) q
 
-all-heads-snoc : (t₀ : Term) (us : List Term) (t : Term) → all-heads ((t₀ ∷ us) ++ (t ∷ [])) ≡ front (all-heads (t₀ ∷ us)) (chain t) (suc (length us))
+pub all-heads-snoc : (t₀ : Term) (us : List Term) (t : Term) → all-heads ((t₀ ∷ us) ++ (t ∷ [])) ≡ front (all-heads (t₀ ∷ us)) (chain t) (suc (length us))
 all-heads-snoc t₀ us t = heads-snoc (λ c. 0) 1 us t (suc (length us)) (omega arith)
 
-all-entries-snoc : (t₀ : Term) (us : List Term) (t : Term) → all-entries ((t₀ ∷ us) ++ (t ∷ [])) ≡ all-entries (t₀ ∷ us) ++ four (size (t₀ ∷ us)) (length (t .bytes)) (t .kind) (all-heads (t₀ ∷ us) (chain t))
+pub all-entries-snoc : (t₀ : Term) (us : List Term) (t : Term) → all-entries ((t₀ ∷ us) ++ (t ∷ [])) ≡ all-entries (t₀ ∷ us) ++ four (size (t₀ ∷ us)) (length (t .bytes)) (t .kind) (all-heads (t₀ ∷ us) (chain t))
 all-entries-snoc t₀ us t = ap (λ (l : List ℕ). 0 ∷ length (t₀ .bytes) ∷ t₀ .kind ∷ 0 ∷ l) (entries-snoc (λ c. 0) 1 (length (t₀ .bytes)) us t (size (t₀ ∷ us)) refl)
 
 -- WHAT PUT STORES in the table: four numbers of the new entry, then the chain's head
@@ -122,7 +122,7 @@ module _ (tl al : ℕ) (t₀ : Term) (us : List Term) (t : Term) where
       last = let q : tl - (64 + 4 * suc n) ≡ tl - (64 + 4 * length (ts ++ (t ∷ []))) = omega (arith, length-append us (t ∷ [])) in ap (λ (k : ℕ). replicate {A = ℕ} k 0) q
 
 -- and in the arena: the bytes, behind those that are there
-bytes-snoc : (ts : List Term) (t : Term) → all-bytes (ts ++ (t ∷ [])) ≡ all-bytes ts ++ t .bytes
+pub bytes-snoc : (ts : List Term) (t : Term) → all-bytes (ts ++ (t ∷ [])) ≡ all-bytes ts ++ t .bytes
 bytes-snoc [] t = append-nil (t .bytes)
 bytes-snoc (u ∷ ts) t = ap (λ (l : List ℕ). u .bytes ++ l) (bytes-snoc ts t) ∙ sym (append-assoc (u .bytes) (all-bytes ts) (t .bytes))
 
@@ -180,3 +180,12 @@ four-stores l at a b c d =
 pub append-end : (d : Dict) (t : Term) (c : ℕ) (table arena : List ℕ) → Appendable d t c → table ≡ sets (d .table) (64 + 4 * d .terms) (four (d .used) (length (t .bytes)) (t .kind) (getD (d .table) c 0)) → arena ≡ paste (d .arena) (d .used) (t .bytes) (length (t .bytes))
     → dict (set table c (d .terms)) arena (d .terms + 1) (d .used + length (t .bytes)) ≡ layout (length (d .table)) (length (d .arena)) (decode d ++ (t ∷ []))
 append-end d t c table arena h e f = (λ i. dict (set (e i) c (d .terms)) (f i) (d .terms + 1) (d .used + length (t .bytes))) ∙ appended d t c h
+
+-- one term more than some others: the last entry, and the heads
+pub entries-end : (ts : List Term) (t : Term) → 0 < length ts → all-entries (ts ++ (t ∷ [])) ≡ all-entries ts ++ four (size ts) (length (t .bytes)) (t .kind) (all-heads ts (chain t))
+entries-end [] t h = absurd (omega arith)
+entries-end (t₀ ∷ us) t h = all-entries-snoc t₀ us t
+
+pub heads-end : (ts : List Term) (t : Term) (k : ℕ) → length ts ≡ k → 0 < k → all-heads (ts ++ (t ∷ [])) ≡ front (all-heads ts) (chain t) k
+heads-end [] t k e h = absurd (omega arith)
+heads-end (t₀ ∷ us) t k e h = all-heads-snoc t₀ us t ∙ ap (front (all-heads (t₀ ∷ us)) (chain t)) e

@@ -16,5 +16,8 @@ pub mod Walking
 pub mod Finding
 pub mod Putting
 pub mod Hashing
+pub mod Naming
+pub mod Scanning
+pub mod Refusing
 pub mod Looking
 pub mod ContainerTerms

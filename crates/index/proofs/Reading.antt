@@ -22,7 +22,7 @@ pub record Entry-is (table : List ℕ) (id a l m n : ℕ) : Type 0 where
   pub next : next-of table id ≡ n
 
 -- from a row of entries to the table that it ends
-entry-is : (table : List ℕ) (k a l m n : ℕ) → Entry (drop 64 table) k a l m n → Entry-is table k a l m n
+pub entry-is : (table : List ℕ) (k a l m n : ℕ) → Entry (drop 64 table) k a l m n → Entry-is table k a l m n
 entry-is table k a l m n e = record {
   start = at (4 * k) ∙ e .begins;
   long = place 1 ∙ (at (4 * k + 1) ∙ e .bytes);
