@@ -1,5 +1,5 @@
 -- The contents of one term more, as stores into the contents. Assumes nothing.
-use mathlib.Core.Path.{_≡_, refl, sym, _∙_, ap, ap₂}
+use mathlib.Core.Path.{_≡_, refl, sym, _∙_, ap, ap₂, subst}
 use mathlib.Core.Logic.{_≢_}
 use mathlib.Core.Bool.{Bool, true, false}
 use mathlib.Core.List.{List, [], _∷_, _++_, append-assoc, append-nil}
@@ -7,12 +7,14 @@ use Prim.Native.Nat.{ℕ, zero, suc, _+_, _*_, _-_, _≤_, _<_}
 use native.Mathlib.Omega.{arith}
 use native.Mathlib.Nat.{not-suc-le-zero}
 use lib.Dec.{T, eqb, eqb→eq, eqb-refl}
-use lib.ListN.{length, drop, set, replicate, length-append}
+use lib.ListN.{length, getD, drop, set, replicate, length-append}
 use lib.Seq.{sets, sets-eq, paste, take-at, take-length, drop-append-add, set-append-left}
 use Rattle.common.specs.Triples.{if}
 use Rattle.index.specs.Terms.{Term}
-use Rattle.index.specs.Layout.{chain, all-bytes, size, front, heads, entries, all-heads, all-entries, span, layout}
+use Rattle.index.specs.Layout.{Dict, dict, chain, all-bytes, size, front, heads, entries, all-heads, all-entries, span, layout, decode}
+use Rattle.index.specs.Entries.{Appendable}
 use Rattle.index.proofs.Decoding.{length-span, length-all-entries, length-all-bytes, size-append}
+use Rattle.index.proofs.Chains.{head-of}
 
 -- one term more at the end
 heads-snoc : (H : ℕ → ℕ) (i : ℕ) (us : List Term) (t : Term) (j : ℕ) → i + length us ≡ j → heads H i (us ++ (t ∷ [])) ≡ front (heads H i us) (chain t) j
@@ -20,7 +22,7 @@ unfolding heads
 heads-snoc H i [] t j e = let q : i ≡ j = omega arith in ap (front H (chain t)) q
 heads-snoc H i (u ∷ us) t j e = let q : suc i + length us ≡ j = omega arith in heads-snoc (front H (chain u) i) (suc i) us t j q
 
-abbrev four : ℕ → ℕ → ℕ → ℕ → List ℕ
+abbrev pub four : ℕ → ℕ → ℕ → ℕ → List ℕ
 four a b c d = a ∷ b ∷ c ∷ d ∷ []
 
 entries-snoc : (H : ℕ → ℕ) (i at : ℕ) (us : List Term) (t : Term) (a : ℕ) → at + size us ≡ a → entries H i at (us ++ (t ∷ [])) ≡ entries H i at us ++ four a (length (t .bytes)) (t .kind) (heads H i us (chain t))
@@ -59,25 +61,25 @@ front-other H c v x n = go (eqb x c) (eqb→eq x c)
     go true e = absurd (n (e tt))
     go false e = refl
 
-head-set : (H : ℕ → ℕ) (c v : ℕ) → c < 64 → set (span 64 0 H) c v ≡ span 64 0 (front H c v)
+pub head-set : (H : ℕ → ℕ) (c v : ℕ) → c < 64 → set (span 64 0 H) c v ≡ span 64 0 (front H c v)
 head-set H c v h = let q : 0 + c ≡ c = omega arith in span-set 64 0 H (front H c v) c v h (front-same H c v ∙ ap (front H c v) (sym q)) (λ x n. front-other H c v x (λ e. n (e ∙ sym q)))
 
 -- four numbers stored behind p
-four-set : (p z : List ℕ) (k a b c d : ℕ) → length p ≡ k → sets (p ++ (0 ∷ 0 ∷ 0 ∷ 0 ∷ z)) k (four a b c d) ≡ p ++ (a ∷ b ∷ c ∷ d ∷ z)
+pub four-set : (p z : List ℕ) (k a b c d : ℕ) → length p ≡ k → sets (p ++ (0 ∷ 0 ∷ 0 ∷ 0 ∷ z)) k (four a b c d) ≡ p ++ (a ∷ b ∷ c ∷ d ∷ z)
 four-set p z k a b c d e =
     sets-eq (four a b c d) (p ++ (0 ∷ 0 ∷ 0 ∷ 0 ∷ z)) k (omega (arith, length-append p (0 ∷ 0 ∷ 0 ∷ 0 ∷ z)))
     ∙ (ap₂ (λ (x y : List ℕ). x ++ four a b c d ++ y) (take-at p (0 ∷ 0 ∷ 0 ∷ 0 ∷ z) k e) (ap (λ (j : ℕ). drop (j + 4) (p ++ (0 ∷ 0 ∷ 0 ∷ 0 ∷ z))) (sym e) ∙ drop-append-add p (0 ∷ 0 ∷ 0 ∷ 0 ∷ z) 4)
     ∙ append-assoc p (four a b c d) z)
 
-drop-zeros : (n m : ℕ) → drop n (replicate m 0) ≡ replicate {A = ℕ} (m - n) 0
+pub drop-zeros : (n m : ℕ) → drop n (replicate m 0) ≡ replicate {A = ℕ} (m - n) 0
 drop-zeros zero m = let q : m ≡ m - 0 = omega arith in ap (λ (k : ℕ). replicate {A = ℕ} k 0) q
 drop-zeros (suc n) zero = let q : 0 ≡ 0 - suc n = omega arith in ap (λ (k : ℕ). replicate {A = ℕ} k 0) q
 drop-zeros (suc n) (suc m) = let q : m - n ≡ suc m - suc n = omega arith in drop-zeros n m ∙ ap (λ (k : ℕ). replicate {A = ℕ} k 0) q
 
-all-heads-snoc : (t₀ : Term) (us : List Term) (t : Term) → all-heads ((t₀ ∷ us) ++ (t ∷ [])) ≡ front (all-heads (t₀ ∷ us)) (chain t) (suc (length us))
+pub all-heads-snoc : (t₀ : Term) (us : List Term) (t : Term) → all-heads ((t₀ ∷ us) ++ (t ∷ [])) ≡ front (all-heads (t₀ ∷ us)) (chain t) (suc (length us))
 all-heads-snoc t₀ us t = heads-snoc (λ c. 0) 1 us t (suc (length us)) (omega arith)
 
-all-entries-snoc : (t₀ : Term) (us : List Term) (t : Term) → all-entries ((t₀ ∷ us) ++ (t ∷ [])) ≡ all-entries (t₀ ∷ us) ++ four (size (t₀ ∷ us)) (length (t .bytes)) (t .kind) (all-heads (t₀ ∷ us) (chain t))
+pub all-entries-snoc : (t₀ : Term) (us : List Term) (t : Term) → all-entries ((t₀ ∷ us) ++ (t ∷ [])) ≡ all-entries (t₀ ∷ us) ++ four (size (t₀ ∷ us)) (length (t .bytes)) (t .kind) (all-heads (t₀ ∷ us) (chain t))
 all-entries-snoc t₀ us t = ap (λ (l : List ℕ). 0 ∷ length (t₀ .bytes) ∷ t₀ .kind ∷ 0 ∷ l) (entries-snoc (λ c. 0) 1 (length (t₀ .bytes)) us t (size (t₀ ∷ us)) refl)
 
 -- WHAT PUT STORES in the table: four numbers of the new entry, then the chain's head
@@ -120,7 +122,7 @@ module _ (tl al : ℕ) (t₀ : Term) (us : List Term) (t : Term) where
       last = let q : tl - (64 + 4 * suc n) ≡ tl - (64 + 4 * length (ts ++ (t ∷ []))) = omega (arith, length-append us (t ∷ [])) in ap (λ (k : ℕ). replicate {A = ℕ} k 0) q
 
 -- and in the arena: the bytes, behind those that are there
-bytes-snoc : (ts : List Term) (t : Term) → all-bytes (ts ++ (t ∷ [])) ≡ all-bytes ts ++ t .bytes
+pub bytes-snoc : (ts : List Term) (t : Term) → all-bytes (ts ++ (t ∷ [])) ≡ all-bytes ts ++ t .bytes
 bytes-snoc [] t = append-nil (t .bytes)
 bytes-snoc (u ∷ ts) t = ap (λ (l : List ℕ). u .bytes ++ l) (bytes-snoc ts t) ∙ sym (append-assoc (u .bytes) (all-bytes ts) (t .bytes))
 
@@ -136,3 +138,54 @@ arena-put tl al ts t =
 
     behind : drop (size ts + length (t .bytes)) (all-bytes ts ++ R) ≡ replicate {A = ℕ} (al - size ts - length (t .bytes)) 0
     behind = ap (λ (k : ℕ). drop (k + length (t .bytes)) (all-bytes ts ++ R)) (sym (length-all-bytes ts)) ∙ (drop-append-add (all-bytes ts) R (length (t .bytes)) ∙ drop-zeros (length (t .bytes)) (al - size ts))
+
+-- THE CONTENTS OF ONE TERM MORE, as they are stored: the term's bytes, its entry, and its id as its chain's head
+abbrev stored : Dict → Term → ℕ → Dict
+stored d t c =
+    dict
+    (set (sets (d .table) (64 + 4 * d .terms) (four (d .used) (length (t .bytes)) (t .kind) (getD (d .table) c 0))) c (d .terms))
+    (paste (d .arena) (d .used) (t .bytes) (length (t .bytes)))
+    (d .terms + 1)
+    (d .used + length (t .bytes))
+
+stored-terms : (tl al : ℕ) (ts : List Term) (t : Term) → 0 < length ts → 64 + 4 * suc (length ts) ≤ tl → stored (layout tl al ts) t (chain t) ≡ layout tl al (ts ++ (t ∷ []))
+unfolding layout
+stored-terms tl al [] t p h = absurd (omega arith)
+stored-terms tl al (t₀ ∷ us) t p h =
+    let ts = t₀ ∷ us in
+    let e₁ = ap (λ (x : ℕ). set (sets (layout tl al ts .table) (64 + 4 * length ts) (four (size ts) (length (t .bytes)) (t .kind) x)) (chain t) (length ts)) (head-of tl al ts (chain t) (omega arith)) ∙ sym (table-put tl al t₀ us t h) in
+    let e₂ = sym (arena-put tl al ts t) in
+    let e₃ : length ts + 1 ≡ length (ts ++ (t ∷ [])) = omega (arith, length-append us (t ∷ [])) in
+    let e₄ : size ts + length (t .bytes) ≡ size (ts ++ (t ∷ [])) = omega (arith, size-append ts (t ∷ [])) in
+    λ i. dict (e₁ i) (e₂ i) (e₃ i) (e₄ i)
+
+-- what append leaves
+pub appended : (d : Dict) (t : Term) (c : ℕ) → Appendable d t c → stored d t c ≡ layout (length (d .table)) (length (d .arena)) (decode d ++ (t ∷ []))
+unfolding layout
+appended d t c h =
+    let tl = length (d .table) in
+    let al = length (d .arena) in
+    let n = ap (λ (x : Dict). x .terms) (h .laid) in
+    ap (stored d t) (h .chained)
+    ∙ subst (λ (x : Dict). stored x t (chain t) ≡ layout tl al (decode d ++ (t ∷ []))) (h .laid) (stored-terms tl al (decode d) t (omega (arith, n, h .some)) (omega (arith, n, h .entry)))
+
+-- by the stores that the code makes
+pub four-stores : (l : List ℕ) (at a b c d : ℕ) → set (set (set (set l at a) (at + 1) b) (at + 2) c) (at + 3) d ≡ sets l at (four a b c d)
+four-stores l at a b c d =
+    let e₁ : at + 1 ≡ suc at = omega arith in
+    let e₂ : at + 2 ≡ suc (suc at) = omega arith in
+    let e₃ : at + 3 ≡ suc (suc (suc at)) = omega arith in
+    λ i. set (set (set (set l at a) (e₁ i) b) (e₂ i) c) (e₃ i) d
+
+pub append-end : (d : Dict) (t : Term) (c : ℕ) (table arena : List ℕ) → Appendable d t c → table ≡ sets (d .table) (64 + 4 * d .terms) (four (d .used) (length (t .bytes)) (t .kind) (getD (d .table) c 0)) → arena ≡ paste (d .arena) (d .used) (t .bytes) (length (t .bytes))
+    → dict (set table c (d .terms)) arena (d .terms + 1) (d .used + length (t .bytes)) ≡ layout (length (d .table)) (length (d .arena)) (decode d ++ (t ∷ []))
+append-end d t c table arena h e f = (λ i. dict (set (e i) c (d .terms)) (f i) (d .terms + 1) (d .used + length (t .bytes))) ∙ appended d t c h
+
+-- one term more than some others: the last entry, and the heads
+pub entries-end : (ts : List Term) (t : Term) → 0 < length ts → all-entries (ts ++ (t ∷ [])) ≡ all-entries ts ++ four (size ts) (length (t .bytes)) (t .kind) (all-heads ts (chain t))
+entries-end [] t h = absurd (omega arith)
+entries-end (t₀ ∷ us) t h = all-entries-snoc t₀ us t
+
+pub heads-end : (ts : List Term) (t : Term) (k : ℕ) → length ts ≡ k → 0 < k → all-heads (ts ++ (t ∷ [])) ≡ front (all-heads ts) (chain t) k
+heads-end [] t k e h = absurd (omega arith)
+heads-end (t₀ ∷ us) t k e h = all-heads-snoc t₀ us t ∙ ap (front (all-heads (t₀ ∷ us)) (chain t)) e

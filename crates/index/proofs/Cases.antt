@@ -1,5 +1,13 @@
 -- Cases of start, put and lookup that compute, the expected values written from document 01. Assumes nothing.
-
+use mathlib.Core.Path.{_≡_, refl}
+use mathlib.Core.List.{List, [], _∷_}
+use Prim.Native.Nat.{ℕ, _+_, _*_}
+use lib.ListN.{take, drop, replicate}
+use Rattle.common.specs.Text.{text}
+use Rattle.index.specs.Terms.{Term, term, rdf, start-terms}
+use Rattle.index.specs.Layout.{Dict, dict, heads, entries, span, layout, read, decode}
+use Rattle.index.specs.Dictionary.{place-from, reckon-put, lookup-answer, reckon-lookup, start-refusal, grows, begins, holdable, valid}
+use Rattle.index.specs.Calls.{start-gives, put-gives, lookup-gives}
 -- a start's refusals: tables of 63 and 189 numbers are ill-sized; 30 entries are too few, and so are 1,324 bytes
 use mathlib.Core.Path.{_≡_, refl}
 use mathlib.Core.List.{List, [], _∷_}
@@ -20,7 +28,7 @@ pub start-refusals :
     (start-number 184 2000 ≡ 7) ×
     (start-number 188 1324 ≡ 7) ×
     (start-number 188 1325 ≡ 0)
-unfolding start-gives start-terms layout
+unfolding start-gives start-refusal start-terms layout
 start-refusals = (refl, refl, refl, refl, refl)
 
 -- a table of 33 entries and an arena of 1,337 bytes, started: room for two terms more, of twelve bytes together
@@ -28,12 +36,12 @@ abbrev small : Dict
 small = start-gives (replicate (64 + 4 * 33) 7) (replicate 1337 7) .contents
 
 pub start-counts : (small .terms ≡ 31) × (small .used ≡ 1325)
-unfolding start-gives start-terms layout
+unfolding start-gives start-refusal start-terms layout
 start-counts = (refl, refl)
 
 -- entry 0 is 0 5 1 0; rdf type, id 1, follows it with its 47 bytes
 pub start-entries : take 8 (drop 64 (small .table)) ≡ 0 ∷ 5 ∷ 1 ∷ 0 ∷ 5 ∷ 47 ∷ 1 ∷ 0 ∷ []
-unfolding start-gives start-terms layout entries span heads
+unfolding start-gives start-refusal start-terms layout entries span heads
 start-entries = refl
 
 -- puts one after the other: the answers' numbers and ids
@@ -53,7 +61,7 @@ pub put-cases-computed :
     answers small
     (term 1 (text "urn:t1") ∷ term 3 (text "urn:t1") ∷ term 1 (text "urn:t1") ∷ term 3 (text "urn:t1") ∷ term 1 (text "urn:_") ∷ rdf "type" ∷ term 4 [] ∷ term 0 [] ∷ term 2 [] ∷ [])
     ≡ answer 0 31 ∷ answer 0 32 ∷ answer 0 31 ∷ answer 0 32 ∷ answer 0 0 ∷ answer 0 1 ∷ answer 10 0 ∷ answer 10 0 ∷ answer 7 0 ∷ []
-unfolding answers start-gives start-terms layout valid holdable grows begins decode read span heads entries reckon-put place-from put-gives
+unfolding answers start-gives start-refusal start-terms layout valid holdable grows begins decode read span heads entries reckon-put place-from put-gives
 put-cases-computed = refl
 
 pub lookup-cases :
@@ -61,5 +69,5 @@ pub lookup-cases :
     (lookup-gives small 30 ≡ lookup-answer 0 1 (text "http://www.w3.org/2002/07/owl#Class")) ×
     (lookup-gives small 31 ≡ lookup-answer 12 0 []) ×
     (lookup-gives (dict (small .table) (small .arena) 30 1325) 0 ≡ lookup-answer 1 0 [])
-unfolding start-gives start-terms layout valid holdable grows begins decode read span heads entries reckon-put place-from lookup-gives reckon-lookup
+unfolding start-gives start-refusal start-terms layout valid holdable grows begins decode read span heads entries reckon-put place-from lookup-gives reckon-lookup
 lookup-cases = (refl, refl, refl, refl)

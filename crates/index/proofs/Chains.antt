@@ -2,7 +2,7 @@
 use mathlib.Core.Path.{_≡_, refl, sym, _∙_, ap, subst}
 use mathlib.Core.Logic.{_⊎_, inl, inr, _≢_}
 use mathlib.Core.Bool.{Bool, true, false}
-use mathlib.Core.List.{List, [], _∷_, _++_, append-assoc}
+use mathlib.Core.List.{List, [], _∷_, _++_, append-assoc, append-nil}
 use Prim.Native.Nat.{ℕ, zero, suc, _+_, _*_, _-_, _≤_, _<_}
 use native.Mathlib.Omega.{arith}
 use native.Mathlib.Nat.{not-suc-le-zero}
@@ -144,12 +144,12 @@ zero-prev t ts x = go (eqb x (chain t))
     go true = refl
     go false = refl
 
-all-heads-prev : (ts : List Term) (c : ℕ) → all-heads ts c ≡ prev ts c (length ts)
+pub all-heads-prev : (ts : List Term) (c : ℕ) → all-heads ts c ≡ prev ts c (length ts)
 unfolding prev
 all-heads-prev [] c = refl
 all-heads-prev (t ∷ ts) c = let q : 1 + length ts ≡ suc (length ts) = omega arith in heads-prev (t ∷ ts) (t ∷ []) ts 1 (λ x. 0) refl refl (zero-prev t ts) c ∙ ap (prev (t ∷ ts) c) q
 
-all-entries-at : (ts : List Term) (z : List ℕ) (k : ℕ) → k < length ts → Entry (all-entries ts ++ z) k (size (take k ts)) (length (getD ts k no-term .bytes)) (getD ts k no-term .kind) (prev ts (chain (getD ts k no-term)) k)
+pub all-entries-at : (ts : List Term) (z : List ℕ) (k : ℕ) → k < length ts → Entry (all-entries ts ++ z) k (size (take k ts)) (length (getD ts k no-term .bytes)) (getD ts k no-term .kind) (prev ts (chain (getD ts k no-term)) k)
 unfolding prev
 all-entries-at [] z k h = absurd (not-suc-le-zero h)
 all-entries-at (t ∷ ts) z zero h = entry-first 0 (length (t .bytes)) (t .kind) 0 (entries (λ c. 0) 1 (length (t .bytes)) ts ++ z)
@@ -160,10 +160,17 @@ all-entries-at (t ∷ ts) z (suc k) h =
     (subst (λ (b : ℕ). Entry (entries (λ c. 0) 1 (length (t .bytes)) ts ++ z) k (length (t .bytes) + size (take k ts)) (length (getD ts k no-term .bytes)) (getD ts k no-term .kind) (prev (t ∷ ts) (chain (getD ts k no-term)) b)) q
     (entries-at (t ∷ ts) (t ∷ []) ts 1 (length (t .bytes)) (λ c. 0) z refl refl (zero-prev t ts) k h₂))
 
+-- one of 64 heads
+pub span-head : (H : ℕ → ℕ) (c : ℕ) → c < 64 → getD (span 64 0 H) c 0 ≡ H c
+span-head H c h = let q : 0 + c ≡ c = omega arith in ap (λ (l : List ℕ). getD l c 0) (sym (append-nil (span 64 0 H))) ∙ (span-at 64 0 H [] c h ∙ ap H q)
+
 -- WHAT A TABLE HOLDS: the head of the chain c, and the entry of the id k
-pub table-head : (tl al : ℕ) (ts : List Term) (c : ℕ) → c < 64 → getD (layout tl al ts .table) c 0 ≡ prev ts c (length ts)
+pub head-of : (tl al : ℕ) (ts : List Term) (c : ℕ) → c < 64 → getD (layout tl al ts .table) c 0 ≡ all-heads ts c
 unfolding layout
-table-head tl al ts c h = let q : 0 + c ≡ c = omega arith in span-at 64 0 (all-heads ts) (all-entries ts ++ replicate (tl - (64 + 4 * length ts)) 0) c h ∙ (ap (all-heads ts) q ∙ all-heads-prev ts c)
+head-of tl al ts c h = let q : 0 + c ≡ c = omega arith in span-at 64 0 (all-heads ts) (all-entries ts ++ replicate (tl - (64 + 4 * length ts)) 0) c h ∙ ap (all-heads ts) q
+
+pub table-head : (tl al : ℕ) (ts : List Term) (c : ℕ) → c < 64 → getD (layout tl al ts .table) c 0 ≡ prev ts c (length ts)
+table-head tl al ts c h = head-of tl al ts c h ∙ all-heads-prev ts c
 
 pub table-entry : (tl al : ℕ) (ts : List Term) (k : ℕ) → k < length ts → Entry (drop 64 (layout tl al ts .table)) k (size (take k ts)) (length (getD ts k no-term .bytes)) (getD ts k no-term .kind) (prev ts (chain (getD ts k no-term)) k)
 unfolding layout
@@ -184,3 +191,9 @@ part-at (t ∷ ts) z (suc k) h =
 pub arena-part : (tl al : ℕ) (ts : List Term) (k : ℕ) → k < length ts → take (length (getD ts k no-term .bytes)) (drop (size (take k ts)) (layout tl al ts .arena)) ≡ getD ts k no-term .bytes
 unfolding layout
 arena-part tl al ts k h = part-at ts (replicate (al - size ts) 0) k h
+
+-- the last id of a chain below i depends on the terms below i alone
+pub prev-same : (ts us : List Term) (c i : ℕ) → ((j : ℕ) → j < i → getD us j no-term ≡ getD ts j no-term) → prev us c i ≡ prev ts c i
+unfolding prev
+prev-same ts us c zero f = refl
+prev-same ts us c (suc i) f = λ j. if (eqb c (chain (f i (omega arith) j))) (λ _. i) (λ _. prev-same ts us c i (λ m l. f m (omega arith)) j)

@@ -28,7 +28,7 @@ read-entries H i at (t ∷ ts) z p w e =
     moved : p ++ ((t .bytes ++ all-bytes ts) ++ w) ≡ (p ++ t .bytes) ++ (all-bytes ts ++ w)
     moved = ap (λ l. p ++ l) (append-assoc (t .bytes) (all-bytes ts) w) ∙ sym (append-assoc p (t .bytes) (all-bytes ts ++ w))
 
-read-all : (ts : List Term) (z w : List ℕ) → read (length ts) (all-entries ts ++ z) (all-bytes ts ++ w) ≡ ts
+pub read-all : (ts : List Term) (z w : List ℕ) → read (length ts) (all-entries ts ++ z) (all-bytes ts ++ w) ≡ ts
 unfolding read
 read-all [] z w = refl
 read-all (t ∷ ts) z w =

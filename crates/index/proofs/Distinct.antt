@@ -1,19 +1,19 @@
 -- The terms that can be held, without replaying puts: the start's first, kinds and lengths in range, none twice, all fits. Assumes nothing.
 use mathlib.Core.Path.{_≡_, refl, sym, _∙_, ap, subst}
 use mathlib.Core.Logic.{_⊎_, inl, inr}
-use mathlib.Core.Bool.{Bool, true, false}
+use mathlib.Core.Bool.{Bool, true, false, _&&_}
 use mathlib.Core.Option.{some, none}
 use mathlib.Core.List.{List, [], _∷_, _++_, append-assoc}
-use Prim.Native.Nat.{ℕ, suc, _+_, _*_}
+use Prim.Native.Nat.{ℕ, zero, suc, _+_, _*_, _<_}
 use native.Mathlib.Omega.{arith}
 use lib.Dec.{T, leb, le→leb}
 use lib.ListN.{length, length-append}
 use Rattle.common.specs.Triples.{In, here, there, if}
 use Rattle.common.specs.Run.{accepted}
-use Rattle.common.proofs.Lists.{in-nil, in-cons, and←}
+use Rattle.common.proofs.Lists.{in-nil, in-cons, in-cases, and→, and←}
 use Rattle.index.specs.Terms.{Term, start-terms}
 use Rattle.index.specs.Layout.{size}
-use Rattle.index.specs.Dictionary.{same-term, place-from, kind-known, short, roomy, Put-answer, put-answer, put-at, reckon-put, sized, grows}
+use Rattle.index.specs.Dictionary.{same-term, place-from, kind-known, short, roomy, Put-answer, put-answer, put-at, reckon-put, term-of, sized, grows}
 use Rattle.index.proofs.Equality.{same-term-refl, same-term→}
 use Rattle.index.proofs.Decoding.{size-append}
 use Rattle.index.proofs.Holding.{Added, end→added, added→end, step, unstep, Fits, Holds, holds-fits}
@@ -110,3 +110,32 @@ pub direct← : (tl al : ℕ) (ts : List Term) → Holds tl al ts → Direct tl 
 direct← tl al ts h =
     let (w, n) = grows→ tl al start-terms (h .more) (h .grown) in
     record { sizes = h .sizes; more = h .more; whole = h .whole; well = w; fresh = n; fits = holds-fits tl al ts h }
+
+-- EVERY TERM THAT CAN BE HELD has a kind from 1 to 3 and at most 4,096 bytes
+abbrev all-well : List Term → Bool
+all-well [] = true
+all-well (t ∷ ts) = (kind-known t && short t) && all-well ts
+
+start-well : T (all-well start-terms)
+unfolding start-terms
+start-well = tt
+
+in-well : (ts : List Term) → T (all-well ts) → (t : Term) → In t ts → T (kind-known t) × T (short t)
+in-well [] h t i = absurd (in-nil i)
+in-well (u ∷ ts) h t i = go (in-cons i) (in-well ts (and→ (kind-known u && short u) (all-well ts) h .1) t)
+  where
+    go : (t ≡ u) ⊎ In t ts → (In t ts → T (kind-known t) × T (short t)) → T (kind-known t) × T (short t)
+    go (inl e) f = subst (λ (x : Term). T (kind-known x) × T (short x)) (sym e) (and→ (kind-known u) (short u) (and→ (kind-known u && short u) (all-well ts) h .0))
+    go (inr j) f = f j
+
+pub holds-well : (tl al : ℕ) (ts : List Term) → Holds tl al ts → (t : Term) → In t ts → T (kind-known t) × T (short t)
+holds-well tl al ts h t i = let d = direct← tl al ts h in go d (in-cases start-terms (subst (In t) (d .whole) i))
+  where
+    go : (d : Direct tl al ts) → In t start-terms ⊎ In t (d .more) → T (kind-known t) × T (short t)
+    go d (inl j) = in-well start-terms start-well t j
+    go d (inr j) = d .well t j
+
+pub at-in : (ts : List Term) (j : ℕ) → j < length ts → In (term-of ts j) ts
+at-in [] j h = absurd (omega arith)
+at-in (t ∷ ts) zero h = here refl
+at-in (t ∷ ts) (suc j) h = there (at-in ts j (omega arith))

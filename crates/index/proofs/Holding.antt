@@ -4,9 +4,9 @@ use mathlib.Core.Logic.{_⊎_, inl, inr}
 use mathlib.Core.Bool.{Bool, true, false, _&&_}
 use mathlib.Core.Option.{Option, some, none}
 use mathlib.Core.List.{List, [], _∷_, _++_, append-assoc, append-nil}
-use Prim.Native.Nat.{ℕ, suc, _+_, _*_, _≤_}
+use Prim.Native.Nat.{ℕ, suc, _+_, _*_, _-_, _%_, _≤_}
 use native.Mathlib.Omega.{arith}
-use lib.Dec.{T, leb, eqb, leb→le, eqb→eq}
+use lib.Dec.{T, leb, eqb, leb→le, le→leb, eqb→eq}
 use lib.ListN.{length}
 use Rattle.common.specs.Triples.{if}
 use Rattle.common.proofs.Lists.{and→, and←, eq→eqb}
@@ -183,3 +183,31 @@ unfolding valid
 valid→ d h =
     let (a, b) = and→ (holdable (length (d .table)) (length (d .arena)) (decode d)) (same-dict (layout (length (d .table)) (length (d .arena)) (decode d)) d) h in
     (holds→ (length (d .table)) (length (d .arena)) (decode d) a, same-dict→ (layout (length (d .table)) (length (d .arena)) (decode d)) d b)
+
+-- THE SIZES, as facts
+pub record Well-sized (tl al : ℕ) : Type 0 where
+  pub low : 64 ≤ tl
+  pub whole : (tl - 64) % 4 ≡ 0
+  pub high : tl ≤ 262204
+  pub arena : al ≤ 1048576
+
+pub sized→ : (tl al : ℕ) → T (sized tl al) → Well-sized tl al
+sized→ tl al h =
+    let (a, k) = and→ (leb 64 tl) (eqb ((tl - 64) % 4) 0 && (leb tl 262204 && leb al 1048576)) h in
+    let (b, l) = and→ (eqb ((tl - 64) % 4) 0) (leb tl 262204 && leb al 1048576) k in
+    let (c, m) = and→ (leb tl 262204) (leb al 1048576) l in
+    record { low = leb→le 64 tl a; whole = eqb→eq ((tl - 64) % 4) 0 b; high = leb→le tl 262204 c; arena = leb→le al 1048576 m }
+
+pub sized← : (tl al : ℕ) → Well-sized tl al → T (sized tl al)
+sized← tl al s =
+    and← (leb 64 tl) (eqb ((tl - 64) % 4) 0 && (leb tl 262204 && leb al 1048576)) (le→leb 64 tl (s .low))
+    (and← (eqb ((tl - 64) % 4) 0) (leb tl 262204 && leb al 1048576) (eq→eqb ((tl - 64) % 4) 0 (s .whole))
+    (and← (leb tl 262204) (leb al 1048576) (le→leb tl 262204 (s .high)) (le→leb al 1048576 (s .arena))))
+
+pub start-fits→ : (tl al : ℕ) → T (start-fits tl al) → (188 ≤ tl) × (1325 ≤ al)
+unfolding start-terms
+start-fits→ tl al h = let (a, b) = and→ (leb 188 tl) (leb 1325 al) h in (leb→le 188 tl a, leb→le 1325 al b)
+
+pub start-fits← : (tl al : ℕ) → 188 ≤ tl → 1325 ≤ al → T (start-fits tl al)
+unfolding start-terms
+start-fits← tl al a b = and← (leb 188 tl) (leb 1325 al) (le→leb 188 tl a) (le→leb 1325 al b)

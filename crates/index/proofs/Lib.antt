@@ -1,5 +1,7 @@
 pub mod Choice
 pub mod Equality
+pub mod Rows
+pub mod Digests
 pub mod Decoding
 pub mod Holding
 pub mod Reachable
@@ -7,8 +9,15 @@ pub mod Vocabulary
 pub mod Cases
 pub mod Chains
 pub mod Distinct
-pub mod Places
 pub mod Appending
+pub mod Reading
+pub mod Starting
 pub mod Walking
-pub mod Looking
 pub mod Finding
+pub mod Putting
+pub mod Hashing
+pub mod Naming
+pub mod Scanning
+pub mod Refusing
+pub mod Looking
+pub mod ContainerTerms

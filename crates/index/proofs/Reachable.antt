@@ -1,5 +1,21 @@
 -- A dictionary is valid exactly when a start followed by puts leaves it: refusal 1 in document 01's own words. Assumes nothing.
-
+use mathlib.Core.Path.{_≡_, refl, sym, _∙_, ap, subst}
+use mathlib.Core.Logic.{_⊎_, inl, inr, _≢_}
+use mathlib.Core.Bool.{Bool, true, false}
+use mathlib.Core.List.{List, [], _∷_, _++_, append-assoc, append-nil}
+use Prim.Native.Nat.{ℕ, zero, suc}
+use native.Mathlib.Omega.{arith}
+use lib.Dec.{T}
+use lib.ListN.{length}
+use Rattle.common.specs.Triples.{if}
+use Rattle.common.specs.Run.{accepted}
+use Rattle.index.specs.Terms.{Term, start-terms}
+use Rattle.index.specs.Layout.{Dict, dict, layout, decode}
+use Rattle.index.specs.Dictionary.{reckon-put, if-zero, lookup-answer, reckon-lookup, sized, start-fits, start-refusal, grows, valid}
+use Rattle.index.specs.Calls.{on-valid, Start-result, start-result, start-gives, Put-result, put-result, put-laid, put-gives, lookup-gives, puts, Reachable}
+use Rattle.index.proofs.Choice.{if-yes, if-no, decide-bool}
+use Rattle.index.proofs.Decoding.{decode-layout, layout-table, layout-arena}
+use Rattle.index.proofs.Holding.{Added, put-cases, end→added, step, Holds, holds-fits, holds-start, holds-put, valid-layout, valid→}
 -- contents that hold terms are valid and name those terms: what a call gives is reckoned from them
 use mathlib.Core.Path.{_≡_, sym, _∙_, ap, subst}
 use mathlib.Core.Logic.{_⊎_, inl, inr, _≢_}
@@ -27,6 +43,30 @@ on-layout tl al ts f g h =
     ∙ (λ i. f (layout-table tl al ts a i) (layout-arena tl al ts b i) (decode-layout tl al ts i))
 
 -- A START
+module _ (tl al : ℕ) where
+  -- the refusals' conditions, in order
+  pub refusal-4 : (T (sized tl al) → ⊥) → 4 ≡ start-refusal tl al
+  unfolding start-refusal
+  refusal-4 n = sym (if-no (sized tl al) (λ _. if (start-fits tl al) (λ _. 0) (λ _. 7)) (λ _. 4) n)
+
+  pub refusal-7 : T (sized tl al) → (T (start-fits tl al) → ⊥) → 7 ≡ start-refusal tl al
+  unfolding start-refusal
+  refusal-7 s n = sym (if-yes (sized tl al) (λ _. if (start-fits tl al) (λ _. 0) (λ _. 7)) (λ _. 4) s ∙ if-no (start-fits tl al) (λ _. 0) (λ _. 7) n)
+
+  pub no-refusal : T (sized tl al) → T (start-fits tl al) → 0 ≡ start-refusal tl al
+  unfolding start-refusal
+  no-refusal s f = sym (if-yes (sized tl al) (λ _. if (start-fits tl al) (λ _. 0) (λ _. 7)) (λ _. 4) s ∙ if-yes (start-fits tl al) (λ _. 0) (λ _. 7) f)
+
+  -- accepted only where sizes and room suffice
+  pub refusal-none : start-refusal tl al ≡ 0 → T (sized tl al) × T (start-fits tl al)
+  unfolding start-refusal
+  refusal-none e = go (sized tl al) (start-fits tl al) e
+    where
+      go : (a b : Bool) → _≡_ {A = ℕ} (if a (λ _. if b (λ _. 0) (λ _. 7)) (λ _. 4)) 0 → T a × T b
+      go true true e = (tt, tt)
+      go true false e = absurd (omega arith)
+      go false b e = absurd (omega arith)
+
 module _ (table arena : List ℕ) where
   abbrev tl : ℕ
   tl = length table
@@ -34,33 +74,32 @@ module _ (table arena : List ℕ) where
   abbrev al : ℕ
   al = length arena
 
-  abbrev laid : Start-result
-  laid = start-result 0 (layout tl al start-terms)
+  abbrev outcome : ℕ → Start-result
+  outcome n = if-zero n (λ _. start-result 0 (layout tl al start-terms)) (λ _. start-result n (dict table arena 0 0))
 
-  abbrev full-result : Start-result
-  full-result = start-result 7 (dict table arena 0 0)
-
-  -- where sizes and room suffice it is accepted
-  pub start-accepts : T (sized tl al) → T (start-fits tl al) → start-gives table arena ≡ laid
+  pub start-accepts : start-refusal tl al ≡ 0 → start-gives table arena ≡ start-result 0 (layout tl al start-terms)
   unfolding start-gives
-  start-accepts s f = if-yes (sized tl al) (λ _. if (start-fits tl al) (λ _. laid) (λ _. full-result)) (λ _. start-result 4 (dict table arena 0 0)) s ∙ if-yes (start-fits tl al) (λ _. laid) (λ _. full-result) f
+  start-accepts e = ap outcome e
 
-  -- and only there
-  pub start-sizes : start-gives table arena .number ≡ 0 → T (sized tl al) × T (start-fits tl al)
+  pub start-refuses : (n : ℕ) → n ≡ start-refusal tl al → n ≢ 0 → start-result n (dict table arena 0 0) ≡ start-gives table arena
   unfolding start-gives
-  start-sizes e = go (sized tl al) (start-fits tl al) e
+  start-refuses zero e h = absurd (h refl)
+  start-refuses (suc n) e h = ap outcome e
+
+  start-number : start-gives table arena .number ≡ start-refusal tl al
+  unfolding start-gives
+  start-number = go (start-refusal tl al)
     where
-      go : (a b : Bool) → (if a (λ _. if b (λ _. laid) (λ _. full-result)) (λ _. start-result 4 (dict table arena 0 0))) .number ≡ 0 → T a × T b
-      go true true e = (tt, tt)
-      go true false e = absurd (omega arith)
-      go false b e = absurd (omega arith)
+      go : (n : ℕ) → outcome n .number ≡ n
+      go zero = refl
+      go (suc n) = refl
 
-  -- the terms that it leaves can be held
+  -- the terms that an accepted start leaves can be held
   pub start-holds : start-gives table arena .number ≡ 0 → Holds tl al start-terms
-  start-holds e = let (s, f) = start-sizes e in holds-start tl al s f
+  start-holds e = let (s, f) = refusal-none tl al (sym start-number ∙ e) in holds-start tl al s f
 
   pub start-leaves : start-gives table arena .number ≡ 0 → start-gives table arena .contents ≡ layout tl al start-terms
-  start-leaves e = let (s, f) = start-sizes e in ap (λ (r : Start-result). r .contents) (start-accepts s f)
+  start-leaves e = ap (λ (r : Start-result). r .contents) (start-accepts (sym start-number ∙ e))
 
 -- PUTS
 put-leaves : (tl al : ℕ) (ts : List Term) (t : Term) → Holds tl al ts → put-gives (layout tl al ts) t .contents ≡ layout tl al (reckon-put tl al ts t .held)
@@ -95,7 +134,7 @@ reachable→valid d r =
 pub valid→reachable : (d : Dict) → T (valid d) → Reachable d
 valid→reachable d v =
     let (h, e) = valid→ d v in
-    let s = start-accepts (d .table) (d .arena) (h .sizes) (h .starts) in
+    let s = start-accepts (d .table) (d .arena) (sym (no-refusal (length (d .table)) (length (d .arena)) (h .sizes) (h .starts))) in
     let tl = length (d .table) in
     let al = length (d .arena) in
     record {

@@ -14,7 +14,7 @@ use Rattle.common.specs.Triples.{In, here, there, if}
 use Rattle.common.proofs.Lists.{in-nil, in-cons, in-right}
 use Rattle.index.specs.Terms.{Term, no-term, start-terms}
 use Rattle.index.specs.Layout.{chain}
-use Rattle.index.specs.Dictionary.{same-term, place-from}
+use Rattle.index.specs.Dictionary.{same-term, place-from, place-of, term-of}
 use Rattle.index.proofs.Equality.{same-term-refl, same-term→}
 use Rattle.index.proofs.Holding.{Holds}
 use Rattle.index.proofs.Chains.{prev, prev-less, prev-chain, prev-gap}
@@ -109,18 +109,19 @@ walk-step ts t j w p n = let l = w .below in subst (λ (c : ℕ). Walked ts t (p
     go k b (yes c) a = w .none-behind k c b
     go k b (no c) a = let q : j ≡ k = omega arith in subst (λ (x : ℕ). getD ts x no-term ≢ t) q n
 
--- the chain's end: only id 0 is left
-pub walk-end : (ts : List Term) (t : Term) → Walked ts t 0 → getD ts 0 no-term ≢ t → place-from 0 t ts ≡ none
-walk-end ts t w n = absent← 0 t ts (λ i. let (k, l, e) = place ts i in go k l e)
+-- a term that stands in a list has a place there
+pub in-place : (us : List Term) (t : Term) → In t us → (k : ℕ) × (k < length us) × (term-of us k ≡ t)
+in-place [] t i = absurd (in-nil i)
+in-place (u ∷ us) t i = pick (in-cons i) (λ j. in-place us t j)
   where
-    place : (us : List Term) → In t us → (k : ℕ) × (k < length us) × (getD us k no-term ≡ t)
-    place [] i = absurd (in-nil i)
-    place (u ∷ us) i = pick (in-cons i) (λ j. place us j)
-      where
-        pick : (t ≡ u) ⊎ In t us → (In t us → (k : ℕ) × (k < length us) × (getD us k no-term ≡ t)) → (k : ℕ) × (k < length (u ∷ us)) × (getD (u ∷ us) k no-term ≡ t)
-        pick (inl e) f = (0, omega arith, sym e)
-        pick (inr j) f = let (k, l, e) = f j in (suc k, omega arith, e)
+    pick : (t ≡ u) ⊎ In t us → (In t us → (k : ℕ) × (k < length us) × (term-of us k ≡ t)) → (k : ℕ) × (k < length (u ∷ us)) × (term-of (u ∷ us) k ≡ t)
+    pick (inl e) f = (0, omega arith, sym e)
+    pick (inr j) f = let (k, l, e) = f j in (suc k, omega arith, e)
 
-    go : (k : ℕ) → k < length ts → getD ts k no-term ≡ t → ⊥
+-- the chain's end: only id 0 is left
+pub walk-end : (ts : List Term) (t : Term) → Walked ts t 0 → term-of ts 0 ≢ t → place-of t ts ≡ none
+walk-end ts t w n = absent← 0 t ts (λ i. let (k, l, e) = in-place ts t i in go k l e)
+  where
+    go : (k : ℕ) → k < length ts → term-of ts k ≡ t → ⊥
     go zero l e = n e
     go (suc k) l e = w .none-behind (suc k) (omega arith) l e

@@ -9,7 +9,7 @@ use lib.ListN.{length}
 use Rattle.common.specs.Triples.{if}
 use Rattle.index.specs.Terms.{Term, start-terms}
 use Rattle.index.specs.Layout.{Dict, dict, layout, decode}
-use Rattle.index.specs.Dictionary.{Lookup-answer, lookup-answer, reckon-put, reckon-lookup, sized, start-fits, valid}
+use Rattle.index.specs.Dictionary.{if-zero, Lookup-answer, lookup-answer, reckon-put, reckon-lookup, start-refusal, valid}
 
 -- what lengths and terms give where the contents are a dictionary's, and another answer where they are not
 abbrev pub on-valid : {A : Type 0} → Dict → (ℕ → ℕ → List Term → A) → (Unit {0} → A) → A
@@ -26,11 +26,8 @@ start-result n d = record { number = n; contents = d }
 -- whatever stood in the table and the arena
 unfoldable pub start-gives : List ℕ → List ℕ → Start-result
 start-gives table arena =
-    let tl = length table in
-    let al = length arena in
-    if (sized tl al)
-    (λ _. if (start-fits tl al) (λ _. start-result 0 (layout tl al start-terms)) (λ _. start-result 7 (dict table arena 0 0)))
-    (λ _. start-result 4 (dict table arena 0 0))
+    let n = start-refusal (length table) (length arena) in
+    if-zero n (λ _. start-result 0 (layout (length table) (length arena) start-terms)) (λ _. start-result n (dict table arena 0 0))
 
 -- PUT: the number, the id, and the contents as they are left
 pub record Put-result : Type 0 where

@@ -102,6 +102,10 @@ sized tl al = leb 64 tl && (eqb ((tl - 64) % 4) 0 && (leb tl (64 + 4 * 65535) &&
 abbrev pub start-fits : ℕ → ℕ → Bool
 start-fits tl al = leb (64 + 4 * length start-terms) tl && leb (size start-terms) al
 
+-- the number of a start's refusal, or 0
+unfoldable pub start-refusal : ℕ → ℕ → ℕ
+start-refusal tl al = if (sized tl al) (λ _. if (start-fits tl al) (λ _. 0) (λ _. 7)) (λ _. 4)
+
 -- a put that answered p brought a term to n others
 abbrev pub adds : ℕ → Put-answer → Bool
 adds n p = eqb (p .number) 0 && eqb (length (p .held)) (suc n)

@@ -1,0 +1,33 @@
+-- The contents and answers that values of the types of src/ stand for. Assumes nothing.
+use mathlib.Core.Path.{_≡_}
+use mathlib.Core.List.{List}
+use Prim.Native.Nat.{ℕ, _-_, _≤_}
+use lib.ListN.{length, take, drop}
+use Rattle.index.specs.declared.values.Counters.{Counters}
+use Rattle.index.specs.declared.values.Located.{Located}
+use Rattle.index.specs.declared.values.PutNext.{PutNext}
+use Rattle.index.specs.declared.values.Started.{Started}
+use Rattle.index.specs.Layout.{Dict, dict}
+use Rattle.index.specs.Dictionary.{Lookup-answer, lookup-answer}
+use Rattle.index.specs.Calls.{Start-result, start-result, Put-result, put-result}
+
+-- a table, an arena and the counters
+abbrev pub contents : List ℕ → List ℕ → Counters → Dict
+contents t a c = dict t a (c .terms) (c .used)
+
+-- the answer of a start, with the table and the arena as they are left
+abbrev pub start-left : Started → List ℕ → List ℕ → Start-result
+start-left r t a = start-result (r .number) (contents t a (r .counters))
+
+-- the answer of a put, with the table and the arena as they are left
+abbrev pub put-left : PutNext → List ℕ → List ℕ → Put-result
+put-left r t a = put-result (r .number) (r .id .0) (contents t a (r .counters))
+
+-- the answer of a lookup whose part lies at a place of the arena
+abbrev pub located : Located → List ℕ → Lookup-answer
+located r arena = lookup-answer (r .number) (r .kind) (take (r .end - r .start) (drop (r .start) arena))
+
+pub record Locates (r : Located) (arena : List ℕ) (answer : Lookup-answer) : Type 0 where
+  pub answers : located r arena ≡ answer
+  pub ordered : r .start ≤ r .end
+  pub within : r .end ≤ length arena
