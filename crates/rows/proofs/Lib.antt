@@ -8,6 +8,7 @@ pub mod Indexes
 pub mod Lex
 pub mod Numbers
 pub mod Heap
+pub mod Permuting
 pub mod Sifting
 pub mod Ordered
 pub mod Removing
