@@ -7,6 +7,7 @@ pub mod Membership
 pub mod Indexes
 pub mod Lex
 pub mod Numbers
+pub mod Shuffles
 pub mod Heap
 pub mod Permuting
 pub mod Sifting
