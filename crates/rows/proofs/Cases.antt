@@ -14,6 +14,24 @@ is-or-not a b = elim (ℕ-discrete a b) [ yes e ↦ inl e | no f ↦ inr f ]
 pub le-or : (a b : ℕ) → (a ≤ b) ⊎ (b < a)
 le-or a b = elim (decLt b a) [ yes e ↦ inr e | no f ↦ inl (omega arith) ]
 
+-- two numbers are the same, or one is below the other
+pub three : (k i : ℕ) → (k ≡ i) ⊎ ((k < i) ⊎ (i < k))
+three k i = go (decLt k i) (decLt i k)
+  where
+    go : Dec (k < i) → Dec (i < k) → (k ≡ i) ⊎ ((k < i) ⊎ (i < k))
+    go (yes p) q = inr (inl p)
+    go (no p) (yes q) = inr (inr q)
+    go (no p) (no q) = inl (omega arith)
+
+-- a number is i, or j, or neither
+pub which : (i j k : ℕ) → (k ≡ i) ⊎ (((k ≡ i → ⊥) × (k ≡ j)) ⊎ ((k ≡ i → ⊥) × (k ≡ j → ⊥)))
+which i j k = go (is-or-not k i) (is-or-not k j)
+  where
+    go : (k ≡ i) ⊎ (k ≡ i → ⊥) → (k ≡ j) ⊎ (k ≡ j → ⊥) → (k ≡ i) ⊎ (((k ≡ i → ⊥) × (k ≡ j)) ⊎ ((k ≡ i → ⊥) × (k ≡ j → ⊥)))
+    go (inl e) q = inl e
+    go (inr n) (inl e) = inr (inl (n, e))
+    go (inr n) (inr o) = inr (inr (n, o))
+
 -- below the next number: below it, or it
 pub below-or : (i n : ℕ) → i < n + 1 → (i < n) ⊎ (i ≡ n)
 below-or i n h = elim (decLt i n) [ yes e ↦ inl e | no f ↦ inr (omega arith) ]

@@ -26,9 +26,11 @@ pub record Clearing (k : ℕ) (l₀ : List ℕ) (i : ℕ) (l : List ℕ) : Type 
   pub before : (x : ℕ) → x < k → getD l x 0 ≡ getD l₀ x 0
   pub zero : (x : ℕ) → k ≤ x → x < i → getD l x 0 ≡ 0
 
+-- at first none is
 pub clearing-start : (k : ℕ) (l : List ℕ) → Clearing k l k l
 clearing-start k l = record { from = omega arith; same-length = refl; before = λ x p. refl; zero = λ x p q. absurd (omega arith) }
 
+-- one more
 pub clearing-step : {k : ℕ} {l₀ : List ℕ} {i : ℕ} {l : List ℕ} → Clearing k l₀ i l → i < length l → Clearing k l₀ (i + 1) (set l i 0)
 clearing-step {k} {l₀} {i} {l} v h = record {
   from = omega (arith, v .from);
@@ -40,6 +42,7 @@ clearing-step {k} {l₀} {i} {l} v h = record {
       (is-or-not x i);
 }
 
+-- at last all from k on
 pub clearing-end : {k : ℕ} {l₀ : List ℕ} {i : ℕ} {l : List ℕ} → Clearing k l₀ i l → length l ≤ i → l ≡ cleared k l₀
 unfolding cleared
 clearing-end {k} {l₀} {i} {l} v h = ext-getD 0 l (take k l₀ ++ replicate (length l₀ - k) 0) long each
@@ -71,6 +74,7 @@ numbers-take (suc w) at l h =
     ap (λ r. getD l at 0 ∷ r) (numbers-take w (at + 1) l (omega arith) ∙ ap (λ k. take w (drop k l)) (add-one at))
     ∙ sym (ap (take (suc w)) (drop-cons l at 0 (omega arith)))
 
+-- so the keys of all rows, one after the other, are the beginning of the list
 pub concat-listed : {A : Type 0} (key : A → List ℕ) (w n : ℕ) (l : List ℕ) (f : ℕ → A) → ((k : ℕ) → key (f k) ≡ row-numbers w l k) → w * n ≤ length l → concat-map (listed n f) key ≡ take (w * n) l
 unfolding listed
 concat-listed key w zero l f kf h =
@@ -83,10 +87,12 @@ concat-listed key w (suc n) l f kf h =
     ∙ sym (take-add (w * n) w l)
     ∙ ap (λ k. take k l) (sym e)
 
+-- triples are laid out by their keys
 pub flat-concat : (ts : List Triple) → flat ts ≡ concat-map ts key-triple
 flat-concat [] = refl
 flat-concat (t ∷ ts) = ap (λ r. t .s ∷ t .p ∷ t .o ∷ r) (flat-concat ts)
 
+-- and so are findings
 pub findings-concat : (xs : List Finding) → flat-findings xs ≡ concat-map xs key-finding
 findings-concat [] = refl
 findings-concat (x ∷ xs) = ap (λ r. x .check ∷ x .a ∷ x .b ∷ x .c ∷ x .d ∷ r) (findings-concat xs)
@@ -95,6 +101,7 @@ findings-concat (x ∷ xs) = ap (λ r. x .check ∷ x .a ∷ x .b ∷ x .c ∷ x
 pub flat-rows : (n : ℕ) (l : List ℕ) → width * n ≤ length l → flat (rows n l) ≡ take (width * n) l
 flat-rows n l h = flat-concat (rows n l) ∙ concat-listed key-triple width n l (rowAt l) (triple-key l) h
 
+-- the first n rows of findings, laid out
 pub flat-finding-rows : (n : ℕ) (l : List ℕ) → 5 * n ≤ length l → flat-findings (finding-rows n l) ≡ take (5 * n) l
 flat-finding-rows n l h = findings-concat (finding-rows n l) ∙ concat-listed key-finding 5 n l (findingAt l) (finding-key l) h
 
@@ -110,17 +117,17 @@ cleared-filled k l m r a b e =
 pub answer-left : {n : ℕ} {l l₁ : List ℕ} {k : ℕ} {l₂ l₃ : List ℕ} → DistinctRows n l → Sorted width n l l₁ → Kept n l₁ k l₂ → l₃ ≡ cleared (width * k) l₂ → Answer n l k l₃
 answer-left {n} {l} {l₁} {k} {l₂} {l₃} c s v e = record {
   count = sym (length-listed k (rowAt l₂)) ∙ ap length list;
-  store = e ∙ cleared-filled (width * k) l l₂ (flat (answer-of n l)) (v .same-length ∙ s .same-length) room (ap flat (sym list) ∙ flat-rows k l₂ room);
+  store = e ∙ cleared-filled (width * k) l l₂ (flat (answer-of n l)) (v .same-length ∙ s .permuted .same-length) room (ap flat (sym list) ∙ flat-rows k l₂ room);
 }
   where
     list : rows k l₂ ≡ answer-of n l
     list = v .kept ∙ ap without-zero (triples-sorted n l l₁ s (c .distinct))
 
     room : width * k ≤ length l₂
-    room = omega (arith, v .few, v .same-length, s .same-length, c .room)
+    room = omega (arith, v .few, v .same-length, s .permuted .same-length, c .room)
 
 -- THE FINDINGS AT THE END: sorted, cleared
 pub findings-left : {n : ℕ} {l m : List ℕ} → 5 * n ≤ length l → Distinct (finding-rows n l) → Sorted 5 n l m → cleared (5 * n) m ≡ filled l (flat-findings (insert-all key-finding (finding-rows n l) []))
 findings-left {n} {l} {m} h d s =
-    cleared-filled (5 * n) l m (flat-findings (insert-all key-finding (finding-rows n l) [])) (s .same-length) (omega (arith, s .same-length))
-    (ap flat-findings (sym (findings-sorted n l m s d)) ∙ flat-finding-rows n m (omega (arith, s .same-length)))
+    cleared-filled (5 * n) l m (flat-findings (insert-all key-finding (finding-rows n l) [])) (s .permuted .same-length) (omega (arith, s .permuted .same-length))
+    (ap flat-findings (sym (findings-sorted n l m s d)) ∙ flat-finding-rows n m (omega (arith, s .permuted .same-length)))

@@ -3,12 +3,11 @@ use mathlib.Core.Path.{_≡_, refl, sym, ap, subst, _∙_}
 use mathlib.Core.Logic.{inr}
 use mathlib.Core.Bool.{Bool, true, false, not}
 use mathlib.Core.List.{List, [], _∷_, _++_, append-nil, append-assoc}
-use Prim.Native.Nat.{ℕ, _+_, _-_, _*_, _≤_, _<_}
+use Prim.Native.Nat.{ℕ, _+_, _*_, _≤_, _<_}
 use native.Mathlib.Omega.{arith}
 use borrow.Author.Tests.{eq-eqb, ne-eqb}
 use lib.Dec.{eqb}
-use lib.ListN.{length, getD, drop, length-drop}
-use lib.Seq.{ext-getD, getD-drop}
+use lib.ListN.{length, getD}
 use Rattle.common.specs.Triples.{Triple, if, concat-map}
 use Rattle.common.specs.Closure.{no-zero, without-zero}
 use Rattle.rows.specs.Rows.{width, rowAt, setRow, rows}
@@ -35,9 +34,11 @@ without-more i l = ap without-zero (listed-more i (rowAt l)) ∙ without-snoc (r
 pub zero-first : (t : Triple) → t .s ≡ 0 → false ≡ no-zero t
 zero-first t e = rw (eq-eqb (t .s) 0 e)
 
+-- the second is zero
 pub zero-second : (t : Triple) → (t .s ≡ 0 → ⊥) → t .p ≡ 0 → false ≡ no-zero t
 zero-second t f e = rw (ne-eqb (t .s) 0 f, eq-eqb (t .p) 0 e)
 
+-- the third decides
 pub zero-last : (t : Triple) → (t .s ≡ 0 → ⊥) → (t .p ≡ 0 → ⊥) → not (eqb (t .o) 0) ≡ no-zero t
 zero-last t f g = rw (ne-eqb (t .s) 0 f, ne-eqb (t .p) 0 g)
 
@@ -47,8 +48,9 @@ pub record Removing (l₀ : List ℕ) (n i k : ℕ) (l : List ℕ) : Type 0 wher
   pub bound : i ≤ n
   pub same-length : length l ≡ length l₀
   pub kept : rows k l ≡ without-zero (rows i l₀)
-  pub rest : (x : ℕ) → width * i ≤ x → getD l x 0 ≡ getD l₀ x 0
+  pub beyond : (x : ℕ) → width * i ≤ x → getD l x 0 ≡ getD l₀ x 0
 
+-- at first none
 pub removing-start : (l : List ℕ) (n : ℕ) → Removing l n 0 0 l
 unfolding without-zero
 removing-start l n = record {
@@ -56,12 +58,12 @@ removing-start l n = record {
   bound = omega arith;
   same-length = refl;
   kept = listed-none (rowAt l) ∙ sym (ap without-zero (listed-none (rowAt l)));
-  rest = λ x p. refl;
+  beyond = λ x p. refl;
 }
 
 module _ {l₀ : List ℕ} {n i k : ℕ} {l : List ℕ} (v : Removing l₀ n i k l) (h : i < n) (t : Triple) (e : t ≡ rowAt l i) where
   here : t ≡ rowAt l₀ i
-  here = e ∙ row-ext l l₀ i (λ x p q. v .rest x p)
+  here = e ∙ row-ext l l₀ i (λ x p q. v .beyond x p)
 
   one : (b : Bool) → no-zero t ≡ b → without-zero (rows (i + 1) l₀) ≡ without-zero (rows i l₀) ++ without-one b t
   one b z = without-more i l₀ ∙ ap (λ u. without-zero (rows i l₀) ++ without-one (no-zero u) u) (sym here) ∙ ap (λ x. without-zero (rows i l₀) ++ without-one x t) z
@@ -74,7 +76,7 @@ module _ {l₀ : List ℕ} {n i k : ℕ} {l : List ℕ} (v : Removing l₀ n i k
     bound = omega arith;
     same-length = v .same-length;
     kept = v .kept ∙ sym (one false z ∙ append-nil (without-zero (rows i l₀)));
-    rest = λ x p. v .rest x (omega arith);
+    beyond = λ x p. v .beyond x (omega arith);
   }
 
   -- another one goes behind those that are kept
@@ -85,16 +87,16 @@ module _ {l₀ : List ℕ} {n i k : ℕ} {l : List ℕ} (v : Removing l₀ n i k
     bound = omega arith;
     same-length = length-put l k t ∙ v .same-length;
     kept = rows-put l k t (omega (arith, v .few, v .same-length)) ∙ ap (λ r. r ++ (t ∷ [])) (v .kept) ∙ sym (one true z);
-    rest = λ x p. put-other l k t x (inr (omega (arith, v .few))) ∙ v .rest x (omega arith);
+    beyond = λ x p. put-other l k t x (inr (omega (arith, v .few))) ∙ v .beyond x (omega arith);
   })
 
+-- at last all n
 pub removing-end : {l₀ : List ℕ} {n i k : ℕ} {l : List ℕ} → Removing l₀ n i k l → n ≤ i → Kept n l₀ k l
 removing-end {l₀} {n} {i} {k} {l} v h = record {
   same-length = v .same-length;
   few = omega (arith, v .few, v .bound);
   kept = v .kept ∙ ap (λ j. without-zero (rows j l₀)) same;
-  rest = ext-getD 0 (drop (width * n) l) (drop (width * n) l₀) (length-drop (width * n) l ∙ ap (λ j. j - width * n) (v .same-length) ∙ sym (length-drop (width * n) l₀))
-      (λ x p. getD-drop (width * n) l x 0 ∙ v .rest (width * n + x) (omega (arith, v .bound)) ∙ sym (getD-drop (width * n) l₀ x 0));
+  beyond = λ x p. v .beyond x (omega (arith, v .bound));
 }
   where
     same : i ≡ n

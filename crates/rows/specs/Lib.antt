@@ -3,5 +3,5 @@ pub mod Chains
 pub mod Store
 pub mod Order
 pub mod Sorted
-pub mod Heap
+pub mod Steps
 pub mod Answer

@@ -1,0 +1,45 @@
+// What the measurements of crate rows link: the sort, and appending with repeats. The harness is harness/rows_bench.
+use rows::Added;
+use rows::add;
+use rows::row;
+use rows::sort_rows;
+ghost use Prim.Native.Nat.{ℕ, _*_, _<_, _≤_, _^_};
+ghost use lib.ListN.{length};
+ghost use Rattle.rows.specs.Store.{Good};
+ghost use Rattle.rows_bench.specs.Load.{Load};
+
+// Rows of the store.
+#[no_mangle]
+pub extern "C" fn rows_bench_sort_triples(buf: &mut [u32], n: usize)
+    requires { ⌜ (3 * n ≤ length (now buf)) × (n < 2 ^ 32) ⌝ }
+{
+    sort_rows(&mut *buf, 3, n);
+}
+
+// Rows of five numbers, as findings have them.
+#[no_mangle]
+pub extern "C" fn rows_bench_sort_findings(buf: &mut [u32], n: usize)
+    requires { ⌜ (5 * n ≤ length (now buf)) × (n < 2 ^ 32) ⌝ }
+{
+    sort_rows(&mut *buf, 5, n);
+}
+
+// Appends the rows of the load to a store of no rows, and answers how many it has then.
+#[no_mangle]
+pub extern "C" fn rows_bench_append(
+    load: &[u32],
+    store: &mut [u32],
+    hash: &mut [u32],
+    count: usize,
+) -> usize
+    requires { ⌜ Good (now store) (now hash) 0 × Load (now load) count ⌝ }
+{
+    let mut n = 0;
+    let mut k = 0;
+    while k < count {
+        let a = add(&mut *store, &mut *hash, n, row(load, k));
+        n = a.n;
+        k += 1;
+    }
+    n
+}

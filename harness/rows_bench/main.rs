@@ -1,0 +1,131 @@
+// Measures crate rows beside Rust's own on the same rows in one run: sorting beside sort_unstable, appending with repeats beside
+// HashSet. A time is the best of several turns, and what both leave is compared. From the repository's root:
+//     rt staticlib rows_bench
+//     rustc --edition 2021 -O -o target/rows_bench -L target/staticlib -l static=rows_bench harness/rows_bench/main.rs && target/rows_bench
+use std::collections::HashSet;
+use std::time::Instant;
+
+extern "C" {
+    fn rows_bench_sort_triples(buf: *mut u32, len: usize, n: usize);
+    fn rows_bench_sort_findings(buf: *mut u32, len: usize, n: usize);
+    fn rows_bench_append(
+        load: *const u32,
+        load_len: usize,
+        store: *mut u32,
+        store_len: usize,
+        hash: *mut u32,
+        hash_len: usize,
+        count: usize,
+    ) -> usize;
+}
+
+const ROWS: usize = 65_535;
+const TURNS: usize = 25;
+
+struct Random(u64);
+
+impl Random {
+    fn below(&mut self, bound: u32) -> u32 {
+        self.0 ^= self.0 << 13;
+        self.0 ^= self.0 >> 7;
+        self.0 ^= self.0 << 17;
+        (self.0 >> 20) as u32 % bound
+    }
+}
+
+// The least milliseconds of a turn, and what the last turn left.
+fn best<T>(mut start: impl FnMut() -> T, mut turn: impl FnMut(&mut T)) -> (f64, T) {
+    let mut least = f64::MAX;
+    let mut last = start();
+    for _ in 0..TURNS {
+        last = start();
+        let clock = Instant::now();
+        turn(&mut last);
+        least = least.min(clock.elapsed().as_secs_f64() * 1e3);
+    }
+    (least, last)
+}
+
+fn sort_here(buf: &mut [u32], width: usize, n: usize) {
+    match width {
+        3 => unsafe { rows_bench_sort_triples(buf.as_mut_ptr(), buf.len(), n) },
+        _ => unsafe { rows_bench_sort_findings(buf.as_mut_ptr(), buf.len(), n) },
+    }
+}
+
+fn sort<const W: usize>(name: &str, rows: &[[u32; W]]) {
+    let flat = rows.concat();
+    let (here, ours) = best(|| flat.clone(), |b| sort_here(b, W, rows.len()));
+    let (rust, theirs) = best(|| rows.to_vec(), |v| v.sort_unstable());
+    assert!(ours == theirs.concat(), "{name}: not the rows that Rust leaves");
+    println!("sort   width {W} {name:36} {here:7.3} ms, sort_unstable {rust:7.3} ms, ratio {:6.2}", here / rust);
+}
+
+fn sorts<const W: usize>(random: &mut Random) {
+    let mut draw = |subjects: u32, predicates: u32, others: u32| -> Vec<[u32; W]> {
+        let bound = |i| if i == 0 { subjects } else if i == 1 { predicates } else { others };
+        (0..ROWS).map(|_| std::array::from_fn(|i| random.below(bound(i)))).collect()
+    };
+    sort("random numbers", &draw(u32::MAX, u32::MAX, u32::MAX));
+    sort("random ids", &draw(65_536, 65_536, 65_536));
+    sort("300 subjects, 30 predicates", &draw(300, 30, 65_536));
+    let mut rows = draw(20_000, 30, 20_000);
+    sort("20,000 subjects, 30 predicates", &rows);
+    rows.sort_unstable();
+    sort("in order", &rows);
+    sort("in order but for the first", &[&rows[1..], &rows[..1]].concat());
+    for runs in [2, 16, 300] {
+        let runs_of: Vec<[u32; W]> = (0..runs).flat_map(|k| rows.iter().skip(k).step_by(runs)).copied().collect();
+        sort(&format!("in {runs} runs, each in order"), &runs_of);
+    }
+    rows.sort_unstable_by_key(|r| (r[1], r[0]));
+    sort("in order of predicates", &rows);
+    rows.sort_unstable_by(|a, b| b.cmp(a));
+    sort("in descending order", &rows);
+    sort("all the same", &[[5; W]; ROWS]);
+}
+
+fn append(name: &str, rows: &[[u32; 3]]) {
+    let flat = rows.concat();
+    let start = || (vec![0u32; 3 * ROWS], vec![0u32; 131_072], 0);
+    let (here, (store, _, count)) = best(start, |(store, hash, count)| {
+        let (s, h) = (store.len(), hash.len());
+        *count = unsafe { rows_bench_append(flat.as_ptr(), flat.len(), store.as_mut_ptr(), s, hash.as_mut_ptr(), h, rows.len()) };
+    });
+    let (rust, set) = best(HashSet::new, |s: &mut HashSet<[u32; 3]>| {
+        for r in rows {
+            s.insert(*r);
+        }
+    });
+    let ours: HashSet<[u32; 3]> = store[..3 * count].chunks(3).map(|r| [r[0], r[1], r[2]]).collect();
+    assert!(count == set.len() && ours == set, "{name}: not the rows that the set has");
+    println!("append {name:44} {count:5} kept {here:7.3} ms, HashSet {rust:7.3} ms, ratio {:6.2}", here / rust);
+}
+
+fn appends(random: &mut Random) {
+    let mut draw = |s: u32, p: u32, o: u32| -> Vec<[u32; 3]> {
+        (0..ROWS).map(|_| [random.below(s), random.below(p), random.below(o)]).collect()
+    };
+    append("random ids", &draw(65_536, 65_536, 65_536));
+    append("20,000 subjects, 30 predicates", &draw(20_000, 30, 20_000));
+    append("a third repeats", &draw(64, 16, 64));
+    append("nearly all repeats", &draw(20, 5, 20));
+    let ids = 0..ROWS as u32;
+    append("subject and object ascend together", &ids.clone().map(|i| [i, 1, i + 1]).collect::<Vec<_>>());
+    append("subject ascends, object descends", &ids.map(|i| [i, 1, 65_535 - i]).collect::<Vec<_>>());
+}
+
+fn main() {
+    let mut random = Random(88_172_645_463_325_252);
+    for n in 0..300 {
+        let before: Vec<u32> = (0..3 * n + 4).map(|_| random.below(6)).collect();
+        let mut after = before.clone();
+        sort_here(&mut after, 3, n);
+        let mut rows: Vec<&[u32]> = before[..3 * n].chunks(3).collect();
+        rows.sort();
+        assert!(after[..3 * n] == rows.concat() && after[3 * n..] == before[3 * n..], "{n} rows");
+    }
+    sorts::<3>(&mut random);
+    sorts::<5>(&mut random);
+    appends(&mut random);
+}
