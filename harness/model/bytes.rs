@@ -60,8 +60,13 @@ pub struct Lent<'a> {
     pub work: &'a mut [u8],
 }
 
-/// Refusal, triple count, counts.
+/// Refusal, triple count, and the count of each check.
 pub fn run(lent: Lent) -> (u32, u32, [u32; 5]) {
+    run_without(lent, 0)
+}
+
+/// The same with some rules left out, as `close` takes them.
+pub fn run_without(lent: Lent, without: u32) -> (u32, u32, [u32; 5]) {
     if lent.table.len() % 4 != 0 {
         return (BROKEN_DICTIONARY, 0, [0; 5]);
     }
@@ -79,7 +84,7 @@ pub fn run(lent: Lent) -> (u32, u32, [u32; 5]) {
     }
     let d = Dictionary { table: &mut table, arena: lent.arena, terms: lent.terms, used: lent.used };
     let b = Buffers { store: &mut store, findings: &mut findings, work: &mut work };
-    let result = calls::run(d, &load, b);
+    let result = calls::run_without(d, &load, b, without);
     write(lent.table, &table);
     write(lent.store, &store);
     write(lent.findings, &findings);

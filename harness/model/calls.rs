@@ -88,7 +88,12 @@ pub struct Buffers<'a> {
 }
 
 /// Refusal, triple count, and the count of each check.
-pub fn run(mut d: Dictionary, load: &[u32], b: Buffers) -> (u32, u32, [u32; 5]) {
+pub fn run(d: Dictionary, load: &[u32], b: Buffers) -> (u32, u32, [u32; 5]) {
+    run_without(d, load, b, 0)
+}
+
+/// The same with some rules left out, as `close` takes them.
+pub fn run_without(mut d: Dictionary, load: &[u32], b: Buffers, without: u32) -> (u32, u32, [u32; 5]) {
     let terms = match before_closing(&d, load, &b) {
         Ok(terms) => terms,
         Err(refusal) => return (refusal, 0, [0; 5]),
@@ -98,7 +103,7 @@ pub fn run(mut d: Dictionary, load: &[u32], b: Buffers) -> (u32, u32, [u32; 5]) 
     b.findings.fill(0);
     b.work.fill(0);
     let load: Vec<Triple> = load.chunks(3).map(|t| [t[0], t[1], t[2]]).collect();
-    let Some(closure) = close(&starting_triples(&terms, &load), b.store.len() / 3, 0) else {
+    let Some(closure) = close(&starting_triples(&terms, &load), b.store.len() / 3, without) else {
         return (STORE_FULL, 0, [0; 5]);
     };
     let found = check(&closure);
