@@ -4,7 +4,7 @@
 #   PORT    the static library with the port's entry points, or "model" for the model in its place. Unset: the library that
 #           `rt staticlib entry` makes, and where the repository has no crate entry yet, the model.
 #
-# A program NAME is programs/NAME.rs; it goes to target/bin-port/NAME or target/bin-model/NAME, and its path is printed.
+# A program NAME is programs/NAME.rs or programs/NAME/main.rs; it goes to target/bin-port/NAME or target/bin-model/NAME, and its path is printed.
 set -eu
 here=$(cd "$(dirname "$0")" && pwd)
 target=$here/target
@@ -47,7 +47,9 @@ lib stand_in stand_in.rs --extern model="$L/libmodel.rlib"
 compile "$L/$which/libtablestork.rlib" --crate-type rlib --crate-name tablestork "$here/tablestork/lib.rs" \
     --extern stand_in="$L/libstand_in.rlib" $cfg $link
 for program in "$@"; do
-    compile "$out/$program" --crate-name "$program" "$here/programs/$program.rs" \
+    source=$here/programs/$program.rs
+    [ -f "$source" ] || source=$here/programs/$program/main.rs
+    compile "$out/$program" --crate-name "$program" "$source" \
         --extern model="$L/libmodel.rlib" --extern generate="$L/libgenerate.rlib" \
         --extern tablestork="$L/$which/libtablestork.rlib" --extern original="$target/original/rlib/liboriginal.rlib"
     echo "$out/$program"

@@ -3,6 +3,8 @@
 pub mod large;
 pub mod random;
 pub mod small;
+#[cfg(test)]
+mod tests;
 
 use model::dictionary::{id_of, Term, NAMED_NODE};
 use model::Triple;

@@ -10,7 +10,7 @@ const MOST_TERMS: usize = 12;
 const MOST_TRIPLES: usize = 18;
 
 /// Closures above this are left out: where many terms are made one, everything stands in everything's place, and the time goes there.
-const MOST_CLOSED: usize = 2_000;
+const MOST_CLOSED: usize = 1_000;
 
 /// Premises of rules and checks: one-letter words are variables, the others vocabulary terms.
 const PREMISES: &[&str] = &[
@@ -43,6 +43,7 @@ const PREMISES: &[&str] = &[
     "r someValuesFrom c, r onProperty p, x p y, y type c",
     "r someValuesFrom c, r onProperty p, x p y, y type d",
     "r someValuesFrom Thing, r onProperty p, x p y",
+    "r someValuesFrom Thing, r onProperty p, x p y, r subClassOf c",
     "c disjointWith d, x type c, x type d",
     "p type IrreflexiveProperty, x p x",
     "p type AsymmetricProperty, x p y, y p x",
@@ -92,18 +93,31 @@ const ZEROS: &[&str] = &[
     "Thing hasValue propertyDisjointWith, Thing onProperty subPropertyOf",
 ];
 
-/// A small model whose closure has at most 2,000 triples.
+/// What carries a real triple by zero triples alone: 0 equal to a term, which then stands in its place in 0 0 0; or 0 as the one
+/// property that is a Thing.
+const CARRIED: &[&str] = &[
+    "Thing hasValue y, Thing onProperty sameAs",
+    "Thing subClassOf r, r hasValue y, r onProperty sameAs",
+    "type subPropertyOf sameAs, r someValuesFrom c, r onProperty p, x p y",
+    "type inverseOf sameAs, p type FunctionalProperty, x p y, z p w",
+    "type type InverseFunctionalProperty, r hasValue v, r onProperty p, x p w",
+    "r someValuesFrom c, r onProperty p, x p y, Thing hasValue q, Thing onProperty subPropertyOf, q domain d, d hasValue v, d onProperty s, s range e",
+    "r someValuesFrom c, r onProperty p, x p y, Thing hasValue q, Thing onProperty subPropertyOf, q range d, d hasValue v, d onProperty s, s inverseOf t",
+    "r hasValue v, r onProperty p, x p y, Thing hasValue q, Thing onProperty subPropertyOf, q domain d, d hasValue w, d onProperty s, w type TransitiveProperty",
+];
+
+/// A small model whose closure has at most 1,000 triples.
 pub fn small(r: &mut Random) -> Model {
     loop {
-        let made = try_small(r);
+        let made = if r.percent(6) { carried(r) } else { try_small(r) };
         if model::closure::close(&made.start(), MOST_CLOSED, 0).is_some() {
             return made;
         }
     }
 }
 
-fn try_small(r: &mut Random) -> Model {
-    let terms = some_terms(r);
+/// A load over this many terms.
+pub fn load(terms: usize, r: &mut Random) -> Vec<Triple> {
     let mut load = Vec::new();
     for _ in 0..r.below(5) {
         let list = match r.below(20) {
@@ -112,11 +126,28 @@ fn try_small(r: &mut Random) -> Model {
             _ => ZEROS,
         };
         let template = r.pick(list);
-        load.extend(instance(template, terms.len(), r));
+        load.extend(instance(template, terms, r));
     }
     for _ in 0..r.below(if load.is_empty() { 14 } else { 5 }) {
+        load.push(any_triple(terms, r));
+    }
+    load
+}
+
+/// Few terms: where 0 is equal to a term, all that is a Thing is.
+fn carried(r: &mut Random) -> Model {
+    let terms = names(r.between(1, 6));
+    let template = r.pick(CARRIED);
+    let mut load = instance(template, terms.len(), r);
+    for _ in 0..r.below(3) {
         load.push(any_triple(terms.len(), r));
     }
+    Model { terms, load }
+}
+
+fn try_small(r: &mut Random) -> Model {
+    let terms = some_terms(r);
+    let mut load = load(terms.len(), r);
     for (k, (_, bytes)) in terms.iter().enumerate() {
         if bytes.starts_with(b"http") && r.percent(80) {
             load.push([node(terms.len(), r), FIRST + k as u32, node(terms.len(), r)]);

@@ -12,6 +12,7 @@ use original::Closed as Reference;
 use std::collections::BTreeSet;
 use std::panic::{catch_unwind, AssertUnwindSafe};
 use std::sync::Mutex;
+use std::time::{Duration, Instant};
 use tablestork::{Closed, Dictionary, Refusal};
 
 enum Verdict {
@@ -60,8 +61,9 @@ fn compare(name: &str, n: u64, model: impl Fn(u64) -> Model + Sync, make: Make) 
             Verdict::Differs(how) => {
                 tally.compared += 1;
                 tally.differences += 1;
+                let before = tally.differences - 1;
                 drop(tally);
-                report(name, k, &model, &how, make);
+                report(name, k, &model, &how, before, make);
             }
         }
         true
@@ -153,17 +155,26 @@ fn same_answer(closed: &Closed, reference: &Reference) -> Result<(), String> {
     Ok(())
 }
 
-/// Prints a difference with a model that was made as small as leaving triples out makes it.
-fn report(name: &str, k: u64, model: &Model, how: &str, make: Make) {
+/// So many differences are made small before they are printed, each for so long; the others are printed as they are.
+const MADE_SMALL: u64 = 3;
+const LONGEST: Duration = Duration::from_secs(5);
+
+/// Prints a difference with its model, made small by leaving triples out: first halves, then quarters, down to single ones.
+fn report(name: &str, k: u64, model: &Model, how: &str, before: u64, make: Make) {
     let (mut small, mut how) = (model.clone(), how.to_string());
-    let mut at = 0;
-    while at < small.load.len() {
-        let mut fewer = small.clone();
-        fewer.load.remove(at);
-        match judge(&fewer, make) {
-            Verdict::Differs(now) => (small, how) = (fewer, now),
-            _ => at += 1,
+    let clock = Instant::now();
+    let mut part = if before < MADE_SMALL { small.load.len().div_ceil(2) } else { 0 };
+    while part > 0 {
+        let mut at = 0;
+        while at < small.load.len() && clock.elapsed() < LONGEST {
+            let mut fewer = small.clone();
+            fewer.load.drain(at..(at + part).min(small.load.len()));
+            match judge(&fewer, make) {
+                Verdict::Differs(now) => (small, how) = (fewer, now),
+                _ => at += part,
+            }
         }
+        part /= 2;
     }
     println!("difference in {name} model {k}, from {} triples down to {}: {how}", model.load.len(), small.load.len());
     println!("{}", small.text());
