@@ -4,7 +4,8 @@
 #   PORT    the static library with the port's entry points, or "model" for the model in its place. Unset: the library that
 #           `rt staticlib entry` makes, and where the repository has no crate entry yet, the model.
 #
-# A program NAME is programs/NAME.rs or programs/NAME/main.rs; it goes to target/bin-port/NAME or target/bin-model/NAME, and its path is printed.
+# A program NAME is programs/NAME.rs or programs/NAME/main.rs, or tablestork-test, the safe crate's own tests. It goes to
+# target/bin-port/NAME or target/bin-model/NAME, and its path is printed.
 set -eu
 here=$(cd "$(dirname "$0")" && pwd)
 target=$here/target
@@ -43,10 +44,17 @@ lib() { # name file [more]
 lib model model/lib.rs
 lib generate generate/lib.rs --extern model="$L/libmodel.rlib"
 lib stand_in stand_in.rs --extern model="$L/libmodel.rlib"
-# shellcheck disable=SC2086
-compile "$L/$which/libtablestork.rlib" --crate-type rlib --crate-name tablestork "$here/tablestork/lib.rs" \
-    --extern stand_in="$L/libstand_in.rlib" $cfg $link
+tablestork() { # made, kind of crate
+    # shellcheck disable=SC2086
+    compile "$1" $2 --crate-name tablestork "$here/tablestork/lib.rs" --extern stand_in="$L/libstand_in.rlib" $cfg $link
+}
+tablestork "$L/$which/libtablestork.rlib" "--crate-type rlib"
 for program in "$@"; do
+    if [ "$program" = tablestork-test ]; then
+        tablestork "$out/$program" --test
+        echo "$out/$program"
+        continue
+    fi
     source=$here/programs/$program.rs
     [ -f "$source" ] || source=$here/programs/$program/main.rs
     compile "$out/$program" --crate-name "$program" "$source" \

@@ -37,7 +37,11 @@ fn fault() -> &'static Fault {
 }
 
 fn answered(refusal: u32) -> u32 {
-    if refusal != 0 && refusal == fault().refusal { refusal + 1 } else { refusal }
+    if refusal != 0 && refusal == fault().refusal {
+        refusal + 1
+    } else {
+        refusal
+    }
 }
 
 /// # Safety

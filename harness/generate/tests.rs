@@ -31,7 +31,8 @@ fn small_models_bring_up_all_rules_and_checks() {
         for [check, ..] in check(&closure) {
             checks[check as usize] += 1;
         }
-        containers += u32::from(model.load.iter().any(|t| t[1] >= FIRST && is_container_property(&model.terms[(t[1] - FIRST) as usize])));
+        containers +=
+            u32::from(model.load.iter().any(|t| t[1] >= FIRST && is_container_property(&model.terms[(t[1] - FIRST) as usize])));
     }
     println!("of {inside} models, by the rule whose absence shows (0: zero triples): {rules:?}");
     println!("findings by check: {checks:?}, models with a container property: {containers}");

@@ -135,7 +135,10 @@ fn before_closing(d: &Dictionary, load: &[u32], b: &Buffers) -> Result<Vec<Term>
     if triples > LOAD_LIMIT {
         return Err(LOAD_TOO_LONG);
     }
-    if ill_sized(b.store.len(), 3, STORE_LIMIT) || ill_sized(b.findings.len(), 5, FINDINGS_LIMIT) || b.work.len() < 2 * (known + 3) {
+    if ill_sized(b.store.len(), 3, STORE_LIMIT)
+        || ill_sized(b.findings.len(), 5, FINDINGS_LIMIT)
+        || b.work.len() < 2 * (known + 3)
+    {
         return Err(ILL_SIZED_STORE);
     }
     if load.contains(&0) {
@@ -149,7 +152,11 @@ fn before_closing(d: &Dictionary, load: &[u32], b: &Buffers) -> Result<Vec<Term>
             terms.push(term);
         }
     }
-    if d.fits(&terms) { Ok(terms) } else { Err(DICTIONARY_FULL) }
+    if d.fits(&terms) {
+        Ok(terms)
+    } else {
+        Err(DICTIONARY_FULL)
+    }
 }
 
 /// What the closure starts from: the load, 9 1 30, 10 1 30, and three triples for each container property among the predicates.

@@ -15,7 +15,8 @@ fn closes_a_load() {
     with_stack(|| {
         let mut d = started();
         let closed = d.run(&[[31, 1, 32], [32, 8, 33]], 9, 0).expect("accepted");
-        let nine = [[9, 1, 9], [9, 1, 30], [10, 1, 9], [10, 1, 30], [31, 1, 9], [31, 1, 32], [31, 1, 33], [32, 1, 9], [32, 8, 33]];
+        let nine =
+            [[9, 1, 9], [9, 1, 30], [10, 1, 9], [10, 1, 30], [31, 1, 9], [31, 1, 32], [31, 1, 33], [32, 1, 9], [32, 8, 33]];
         assert_eq!(closed, Closed { triples: nine.to_vec(), findings: vec![], counts: [0; 5] });
         assert_eq!(d.terms(), 39);
         assert_eq!(d.run(&[[31, 1, 32], [32, 8, 33]], 8, 0), Err(Refusal::StoreFull));

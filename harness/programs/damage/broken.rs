@@ -73,7 +73,11 @@ fn flip_in_arena(d: &mut Dictionary, r: &mut Random) {
 
 fn flip_in_counter(d: &mut Dictionary, r: &mut Random) {
     let bit = 1u32 << r.below(32);
-    if r.percent(50) { d.terms ^= bit } else { d.used ^= bit }
+    if r.percent(50) {
+        d.terms ^= bit
+    } else {
+        d.used ^= bit
+    }
 }
 
 fn set_number(d: &mut Dictionary, r: &mut Random) {
@@ -83,7 +87,7 @@ fn set_number(d: &mut Dictionary, r: &mut Random) {
     }
     let upto = if r.percent(80) { (HEADS + 4 * terms_of(d)).min(n.0.len()) } else { n.0.len() };
     let at = r.below(upto);
-    let values = [0, 1, 3, 4, d.terms.wrapping_sub(1), d.terms, d.used, 4_096, 4_097, u32::MAX, r.next() as u32];
+    let values = [0, 1, 3, 4, d.terms.wrapping_sub(1), d.terms, d.used, 4_096, 4_097, u32::MAX, r.bits() as u32];
     n.0[at] = r.pick(&values);
     n.write(d);
 }
@@ -230,7 +234,8 @@ fn past_the_arena(d: &mut Dictionary, r: &mut Random) {
     }
     let e = Numbers::entry(r.below(terms));
     let end = d.arena.len() as u32;
-    let pairs = [(u32::MAX, 2), (u32::MAX, 1), (end, 1), (end, 0), (0, end + 1), (1, u32::MAX), (0, u32::MAX), (end - end.min(1), 2)];
+    let pairs =
+        [(u32::MAX, 2), (u32::MAX, 1), (end, 1), (end, 0), (0, end + 1), (1, u32::MAX), (0, u32::MAX), (end - end.min(1), 2)];
     (n.0[e], n.0[e + 1]) = r.pick(&pairs);
     n.write(d);
 }

@@ -16,7 +16,7 @@ pub fn filled(len: usize, r: &mut Random) -> Vec<u8> {
     match r.below(3) {
         0 => vec![0; len],
         1 => vec![0xff; len],
-        _ => (0..len).map(|_| r.next() as u8).collect(),
+        _ => (0..len).map(|_| r.bits() as u8).collect(),
     }
 }
 
@@ -44,7 +44,7 @@ pub fn unstarted(r: &mut Random) -> Dictionary {
         _ => BYTES + BYTES_OF_A_RUN + r.below(300),
     };
     let table = if r.percent(2) { r.below(80) * 4 } else { about(4 * (64 + 4 * entries), 4, r) };
-    Dictionary { table: filled(table, r), arena: filled(bytes, r), terms: r.next() as u32, used: r.next() as u32 }
+    Dictionary { table: filled(table, r), arena: filled(bytes, r), terms: r.bits() as u32, used: r.bits() as u32 }
 }
 
 /// At the limits of table and arena.
@@ -105,14 +105,18 @@ pub fn put(d: &Dictionary, r: &mut Random) -> Call {
         7 => vec![b'y'; left + 1],
         8 => vec![0xff; r.below(9)],
         9..=14 => (0..r.below(4)).map(|_| r.pick(b"abc")).collect(),
-        15..=17 => format!("http://www.w3.org/1999/02/22-rdf-syntax-ns#_{}", r.pick(&["1", "01", "0", "", "18446744073709551615", "18446744073709551616", "3a"])).into_bytes(),
+        15..=17 => format!(
+            "http://www.w3.org/1999/02/22-rdf-syntax-ns#_{}",
+            r.pick(&["1", "01", "0", "", "18446744073709551615", "18446744073709551616", "3a"])
+        )
+        .into_bytes(),
         _ => format!("urn:t{}", r.between(1, 15)).into_bytes(),
     };
     Call::Put { kind, bytes }
 }
 
 pub fn lookup(d: &Dictionary, r: &mut Random) -> Call {
-    let ids = [0, 1, 30, d.terms.wrapping_sub(1), d.terms, d.terms.wrapping_add(1), u32::MAX, r.next() as u32];
+    let ids = [0, 1, 30, d.terms.wrapping_sub(1), d.terms, d.terms.wrapping_add(1), u32::MAX, r.bits() as u32];
     let id = if r.percent(50) { r.pick(&ids) } else { r.below(d.terms.min(100) as usize + 3) as u32 };
     Call::Lookup { id }
 }

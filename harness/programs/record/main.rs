@@ -219,7 +219,8 @@ fn list(text: &mut String, at: usize, case: &Case, premises: &[&str], holds: boo
     let yes = |b: bool| if b { "yes" } else { "no" };
     let load = if premises.is_empty() { "empty".to_string() } else { premises.join(", ") };
     let alone = if alone { "yes" } else { "" };
-    writeln!(text, "| {} | {} | {} | {load} | {conclusion} | {} | {alone} |", at + 1, case.name, case.rule, yes(holds)).expect("a string");
+    writeln!(text, "| {} | {} | {} | {load} | {conclusion} | {} | {alone} |", at + 1, case.name, case.rule, yes(holds))
+        .expect("a string");
 }
 
 /// What is counted: the rules whose absence shows in the answer, zero triples that carry a real one (0), each check, container
@@ -275,7 +276,8 @@ fn random_models() -> Vec<Recorded> {
 fn plain_terms_first(model: Model) -> Model {
     let all_names = names(model.terms.len());
     let is_plain = |k: &usize| model.terms[*k] == all_names[*k];
-    let order: Vec<usize> = (0..model.terms.len()).filter(is_plain).chain((0..model.terms.len()).filter(|k| !is_plain(k))).collect();
+    let order: Vec<usize> =
+        (0..model.terms.len()).filter(is_plain).chain((0..model.terms.len()).filter(|k| !is_plain(k))).collect();
     let plain = order.iter().filter(|k| is_plain(k)).count();
     let mut terms = names(plain);
     terms.extend(order[plain..].iter().map(|k| model.terms[*k].clone()));
