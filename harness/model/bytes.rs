@@ -1,0 +1,93 @@
+//! Document 01, the C entry points: the four calls over byte slices, ids little-endian. A byte length that is no multiple of
+//! 4 is 2 for a load, 1 for a table after the start, else 4, each at its place in the order.
+
+use crate::calls::{self, Buffers, Dictionary};
+use crate::*;
+
+fn numbers(bytes: &[u8]) -> Vec<u32> {
+    bytes.chunks_exact(4).map(|b| u32::from_le_bytes(b.try_into().expect("four bytes"))).collect()
+}
+
+fn write(bytes: &mut [u8], numbers: &[u32]) {
+    for (place, n) in bytes.chunks_exact_mut(4).zip(numbers) {
+        place.copy_from_slice(&n.to_le_bytes());
+    }
+}
+
+/// Refusal.
+pub fn start(table: &mut [u8], arena: &mut [u8], terms: &mut u32, used: &mut u32) -> u32 {
+    if table.len() % 4 != 0 {
+        (*terms, *used) = (0, 0);
+        return ILL_SIZED_STORE;
+    }
+    let mut words = numbers(table);
+    let refusal = calls::start(Dictionary { table: &mut words, arena, terms, used });
+    write(table, &words);
+    refusal
+}
+
+/// Refusal and id.
+pub fn put(table: &mut [u8], arena: &mut [u8], terms: &mut u32, used: &mut u32, kind: u32, bytes: &[u8]) -> (u32, u32) {
+    if table.len() % 4 != 0 {
+        return (BROKEN_DICTIONARY, 0);
+    }
+    let mut words = numbers(table);
+    let result = calls::put(Dictionary { table: &mut words, arena, terms, used }, kind, bytes);
+    write(table, &words);
+    result
+}
+
+/// Refusal, kind, begin and length.
+pub fn lookup(table: &[u8], arena: &[u8], terms: u32, used: u32, id: u32) -> (u32, u32, u64, u64) {
+    if table.len() % 4 != 0 {
+        return (BROKEN_DICTIONARY, 0, 0, 0);
+    }
+    let (mut words, mut arena, mut terms, mut used) = (numbers(table), arena.to_vec(), terms, used);
+    let d = Dictionary { table: &mut words, arena: &mut arena, terms: &mut terms, used: &mut used };
+    let (refusal, kind, begin, length) = calls::lookup(d, id);
+    (refusal, kind, begin as u64, length as u64)
+}
+
+/// What a run is lent, as bytes.
+pub struct Lent<'a> {
+    pub table: &'a mut [u8],
+    pub arena: &'a mut [u8],
+    pub terms: &'a mut u32,
+    pub used: &'a mut u32,
+    pub load: &'a [u8],
+    pub store: &'a mut [u8],
+    pub findings: &'a mut [u8],
+    pub work: &'a mut [u8],
+}
+
+/// Refusal, triple count, and the count of each check.
+pub fn run(lent: Lent) -> (u32, u32, [u32; 5]) {
+    run_without(lent, 0)
+}
+
+/// The same with some rules left out, as `close` takes them.
+pub fn run_without(lent: Lent, without: u32) -> (u32, u32, [u32; 5]) {
+    if lent.table.len() % 4 != 0 {
+        return (BROKEN_DICTIONARY, 0, [0; 5]);
+    }
+    let mut table = numbers(lent.table);
+    let mut store = numbers(lent.store);
+    let mut findings = numbers(lent.findings);
+    let mut work = numbers(lent.work);
+    let mut load = numbers(lent.load);
+    // A ragged byte length becomes a length in numbers that the call refuses for the same reason, at the same place.
+    if lent.load.len() % 4 != 0 {
+        load.resize(1, 0);
+    }
+    if [lent.store.len(), lent.findings.len(), lent.work.len()].iter().any(|n| n % 4 != 0) {
+        work.clear();
+    }
+    let d = Dictionary { table: &mut table, arena: lent.arena, terms: lent.terms, used: lent.used };
+    let b = Buffers { store: &mut store, findings: &mut findings, work: &mut work };
+    let result = calls::run_without(d, &load, b, without);
+    write(lent.table, &table);
+    write(lent.store, &store);
+    write(lent.findings, &findings);
+    write(lent.work, &work);
+    result
+}

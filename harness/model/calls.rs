@@ -1,0 +1,174 @@
+//! Document 01, the four calls on numbers: result, refusals in their order, and every buffer after the call.
+
+use crate::closure::{check, close};
+use crate::dictionary::{self as dict, Term};
+use crate::*;
+
+/// A table, an arena and the two counters of `put`.
+pub struct Dictionary<'a> {
+    pub table: &'a mut [u32],
+    pub arena: &'a mut [u8],
+    pub terms: &'a mut u32,
+    pub used: &'a mut u32,
+}
+
+impl Dictionary<'_> {
+    fn held(&self) -> Option<Vec<Term>> {
+        dict::held(self.table, self.arena, *self.terms, *self.used)
+    }
+
+    /// Lays these terms out.
+    fn write(&mut self, terms: &[Term]) {
+        let (numbers, bytes) = dict::layout(terms, self.table.len(), self.arena.len());
+        self.table.copy_from_slice(&numbers);
+        self.arena.copy_from_slice(&bytes);
+        *self.terms = terms.len() as u32;
+        *self.used = dict::bytes_of(terms) as u32;
+    }
+
+    fn fits(&self, terms: &[Term]) -> bool {
+        dict::fits(terms, self.table.len(), self.arena.len())
+    }
+}
+
+/// Refusal. A refused start hands back counters 0 and 0.
+pub fn start(mut d: Dictionary) -> u32 {
+    *d.terms = 0;
+    *d.used = 0;
+    if !dict::well_sized(d.table.len(), d.arena.len()) {
+        return ILL_SIZED_STORE;
+    }
+    let terms = dict::starting_terms();
+    if !d.fits(&terms) {
+        return DICTIONARY_FULL;
+    }
+    d.write(&terms);
+    0
+}
+
+/// Refusal and id.
+pub fn put(mut d: Dictionary, kind: u32, bytes: &[u8]) -> (u32, u32) {
+    let Some(mut terms) = d.held() else {
+        return (BROKEN_DICTIONARY, 0);
+    };
+    if !(1..=3).contains(&kind) {
+        return (UNKNOWN_KIND, 0);
+    }
+    if bytes.len() > TERM_LIMIT {
+        return (TERM_TOO_LONG, 0);
+    }
+    if let Some(id) = terms.iter().position(|(k, b)| *k == kind && b == bytes) {
+        return (0, id as u32);
+    }
+    terms.push((kind, bytes.to_vec()));
+    if !d.fits(&terms) {
+        return (DICTIONARY_FULL, 0);
+    }
+    d.write(&terms);
+    (0, terms.len() as u32 - 1)
+}
+
+/// Refusal, kind, and the place and length of the term's bytes in the arena.
+pub fn lookup(d: Dictionary, id: u32) -> (u32, u32, usize, usize) {
+    let Some(terms) = d.held() else {
+        return (BROKEN_DICTIONARY, 0, 0, 0);
+    };
+    if id as usize >= terms.len() {
+        return (NO_SUCH_ID, 0, 0, 0);
+    }
+    let (kind, bytes) = &terms[id as usize];
+    (0, *kind, dict::bytes_of(&terms[..id as usize]), bytes.len())
+}
+
+/// The buffers that a run is lent beside the dictionary.
+pub struct Buffers<'a> {
+    pub store: &'a mut [u32],
+    pub findings: &'a mut [u32],
+    pub work: &'a mut [u32],
+}
+
+/// Refusal, triple count, and the count of each check.
+pub fn run(d: Dictionary, load: &[u32], b: Buffers) -> (u32, u32, [u32; 5]) {
+    run_without(d, load, b, 0)
+}
+
+/// The same with some rules left out, as `close` takes them.
+pub fn run_without(mut d: Dictionary, load: &[u32], b: Buffers, without: u32) -> (u32, u32, [u32; 5]) {
+    let terms = match before_closing(&d, load, &b) {
+        Ok(terms) => terms,
+        Err(refusal) => return (refusal, 0, [0; 5]),
+    };
+    d.write(&terms);
+    b.store.fill(0);
+    b.findings.fill(0);
+    b.work.fill(0);
+    let load: Vec<Triple> = load.chunks(3).map(|t| [t[0], t[1], t[2]]).collect();
+    let Some(closure) = close(&starting_triples(&terms, &load), b.store.len() / 3, without) else {
+        return (STORE_FULL, 0, [0; 5]);
+    };
+    let found = check(&closure);
+    if found.len() > b.findings.len() / 5 {
+        return (FINDINGS_FULL, 0, [0; 5]);
+    }
+    let answer: Vec<Triple> = closure.into_iter().filter(|t| !t.contains(&0)).collect();
+    let mut counts = [0; 5];
+    for (row, triple) in b.store.chunks_mut(3).zip(&answer) {
+        row.copy_from_slice(triple);
+    }
+    for (row, record) in b.findings.chunks_mut(5).zip(&found) {
+        row.copy_from_slice(record);
+        counts[record[0] as usize - 1] += 1;
+    }
+    (0, answer.len() as u32, counts)
+}
+
+/// Refusals 1 to 7 of a run, in that order; else the terms with the three that it puts.
+fn before_closing(d: &Dictionary, load: &[u32], b: &Buffers) -> Result<Vec<Term>, u32> {
+    let Some(mut terms) = d.held() else {
+        return Err(BROKEN_DICTIONARY);
+    };
+    let (known, triples) = (terms.len(), load.len() / 3);
+    let ill_sized = |length: usize, width: usize, limit: usize| length % width != 0 || length / width > limit;
+    if load.len() % 3 != 0 {
+        return Err(RAGGED_LOAD);
+    }
+    if triples > LOAD_LIMIT {
+        return Err(LOAD_TOO_LONG);
+    }
+    if ill_sized(b.store.len(), 3, STORE_LIMIT)
+        || ill_sized(b.findings.len(), 5, FINDINGS_LIMIT)
+        || b.work.len() < 2 * (known + 3)
+    {
+        return Err(ILL_SIZED_STORE);
+    }
+    if load.contains(&0) {
+        return Err(BLANK_ID);
+    }
+    if load.iter().any(|id| *id as usize >= known) {
+        return Err(UNKNOWN_TERM);
+    }
+    for term in dict::run_terms() {
+        if !terms.contains(&term) {
+            terms.push(term);
+        }
+    }
+    if d.fits(&terms) {
+        Ok(terms)
+    } else {
+        Err(DICTIONARY_FULL)
+    }
+}
+
+/// What the closure starts from: the load, 9 1 30, 10 1 30, and three triples for each container property among the predicates.
+pub fn starting_triples(terms: &[Term], load: &[Triple]) -> Vec<Triple> {
+    let [property, membership, member] =
+        dict::run_terms().map(|term| terms.iter().position(|t| *t == term).expect("a run puts it") as u32);
+    let mut start = load.to_vec();
+    start.extend([[9, 1, 30], [10, 1, 30]]);
+    for &[_, p, _] in load {
+        if dict::is_container_property(&terms[p as usize]) {
+            start.extend([[p, 1, property], [p, 1, membership], [p, 7, member]]);
+        }
+    }
+    start
+}

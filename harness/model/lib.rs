@@ -1,0 +1,39 @@
+//! An independent model of document 01, written for comparison from the document alone: the dictionary, the closure and the
+//! four calls, each call's result and every buffer after it. It is plain rather than fast, and shares nothing with the port.
+//!
+//! Where the document leaves a point open it takes the readings of docs/DECISIONS.md.
+
+pub mod bytes;
+pub mod calls;
+pub mod closure;
+pub mod dictionary;
+pub mod lists;
+
+#[cfg(test)]
+mod tests;
+
+/// Subject, predicate, object.
+pub type Triple = [u32; 3];
+
+/// A check's number and its four numbers.
+pub type Finding = [u32; 5];
+
+pub const BROKEN_DICTIONARY: u32 = 1;
+pub const RAGGED_LOAD: u32 = 2;
+pub const LOAD_TOO_LONG: u32 = 3;
+pub const ILL_SIZED_STORE: u32 = 4;
+pub const BLANK_ID: u32 = 5;
+pub const UNKNOWN_TERM: u32 = 6;
+pub const DICTIONARY_FULL: u32 = 7;
+pub const STORE_FULL: u32 = 8;
+pub const FINDINGS_FULL: u32 = 9;
+pub const UNKNOWN_KIND: u32 = 10;
+pub const TERM_TOO_LONG: u32 = 11;
+pub const NO_SUCH_ID: u32 = 12;
+
+pub const LOAD_LIMIT: usize = 16_384;
+pub const STORE_LIMIT: usize = 65_535;
+pub const FINDINGS_LIMIT: usize = 65_535;
+pub const ENTRIES_LIMIT: usize = 65_535;
+pub const ARENA_LIMIT: usize = 1_048_576;
+pub const TERM_LIMIT: usize = 4_096;

@@ -1,0 +1,73 @@
+//! bench MODEL...: for each file in program closer's input format, without its limits, a line `ratio NAME R`.
+//!
+//! R is the port's time for `run` alone over the original's for `reason` alone: the median of RUNS runs each, alternating, each
+//! on a fresh dictionary and cleared buffers. A second line has the times and sizes.
+
+mod support;
+
+use generate::{names, Model};
+use model::{FINDINGS_LIMIT, STORE_LIMIT};
+use std::time::{Duration, Instant};
+use tablestork::Buffers;
+
+const RUNS: usize = 9;
+
+fn main() {
+    let files: Vec<String> = std::env::args().skip(1).collect();
+    if files.is_empty() {
+        eprintln!("bench MODEL...");
+        std::process::exit(2);
+    }
+    let same = tablestork::with_stack(|| files.iter().filter(|file| !bench(file)).count() == 0);
+    std::process::exit(i32::from(!same));
+}
+
+/// Program closer's input: a count of named nodes, then lines of three ids.
+fn read(file: &str) -> Model {
+    let text = std::fs::read_to_string(file).unwrap_or_else(|e| panic!("{file}: {e}"));
+    let bad = |n: usize| -> ! { panic!("{file}: bad line {}", n + 1) };
+    let mut lines = text.lines().enumerate();
+    let count = lines.next().and_then(|(_, l)| l.parse().ok()).unwrap_or_else(|| bad(0));
+    let triple = |(n, line): (usize, &str)| {
+        let ids: Vec<u32> = line.split(' ').map(|w| w.parse().unwrap_or_else(|_| bad(n))).collect();
+        <[u32; 3]>::try_from(ids).unwrap_or_else(|_| bad(n))
+    };
+    Model { terms: names(count), load: lines.map(triple).collect() }
+}
+
+/// Tells whether the answers are the same.
+fn bench(file: &str) -> bool {
+    let name = std::path::Path::new(file).file_stem().map_or(file.into(), |n| n.to_string_lossy().into_owned());
+    let model = read(file);
+    let dictionary = support::laid_out_dictionary(&model);
+    let mut buffers = Buffers::new(&model.load, STORE_LIMIT, FINDINGS_LIMIT, dictionary.work_length());
+    let (mut ours, mut theirs, mut same) = (Vec::new(), Vec::new(), true);
+    for _ in 0..RUNS {
+        buffers.clear();
+        let mut d = dictionary.clone();
+        let clock = Instant::now();
+        let result = d.run_in(&mut buffers);
+        ours.push(clock.elapsed());
+        let reference = original::close(&model.terms, &model.load);
+        theirs.push(reference.took);
+        match result {
+            Ok((count, counts)) => same &= buffers.closed(count, counts).triples == reference.triples,
+            Err(refusal) => {
+                println!("{name}: refused, {refusal:?}");
+                return false;
+            }
+        }
+    }
+    let (ours, theirs) = (median(&mut ours), median(&mut theirs));
+    println!("ratio {name} {:.3}", ours.as_secs_f64() / theirs.as_secs_f64());
+    println!("  port {ours:.1?}, original {theirs:.1?}, load {}", model.load.len());
+    if !same {
+        println!("{name}: the answers differ");
+    }
+    same
+}
+
+fn median(times: &mut [Duration]) -> Duration {
+    times.sort_unstable();
+    times[times.len() / 2]
+}

@@ -1,0 +1,133 @@
+//! One call on lent bytes, performed by the port and by the model, and what it leaves.
+
+use model::bytes as ours;
+use tablestork::port;
+
+/// A table, an arena and the two counters, as bytes lent to a call.
+#[derive(Clone, PartialEq, Eq)]
+pub struct Dictionary {
+    pub table: Vec<u8>,
+    pub arena: Vec<u8>,
+    pub terms: u32,
+    pub used: u32,
+}
+
+#[derive(Clone, PartialEq, Eq)]
+pub enum Call {
+    Start,
+    Put { kind: u32, bytes: Vec<u8> },
+    Lookup { id: u32 },
+    Run(Run),
+}
+
+/// What a run is lent beside the dictionary.
+#[derive(Clone, PartialEq, Eq)]
+pub struct Run {
+    pub load: Vec<u8>,
+    pub store: Vec<u8>,
+    pub findings: Vec<u8>,
+    pub work: Vec<u8>,
+}
+
+/// The result's numbers, the refusal first, and every buffer.
+#[derive(PartialEq, Eq)]
+pub struct After {
+    pub result: Vec<u64>,
+    pub dictionary: Dictionary,
+    pub call: Call,
+}
+
+#[derive(Clone, Copy)]
+pub enum By {
+    Port,
+    Model,
+}
+
+pub const CALLS: [&str; 4] = ["start", "put", "lookup", "run"];
+
+impl Call {
+    /// The place of its name in `CALLS`.
+    pub fn number(&self) -> usize {
+        match self {
+            Call::Start => 0,
+            Call::Put { .. } => 1,
+            Call::Lookup { .. } => 2,
+            Call::Run(_) => 3,
+        }
+    }
+}
+
+/// Performs the call on copies.
+pub fn perform(by: By, dictionary: &Dictionary, call: &Call) -> After {
+    let (mut d, mut call) = (dictionary.clone(), call.clone());
+    let result = match &mut call {
+        Call::Start => start(by, &mut d),
+        Call::Put { kind, bytes } => put(by, &mut d, *kind, bytes),
+        Call::Lookup { id } => lookup(by, &d, *id),
+        Call::Run(buffers) => run(by, &mut d, buffers),
+    };
+    After { result, dictionary: d, call }
+}
+
+fn start(by: By, d: &mut Dictionary) -> Vec<u64> {
+    let refusal = match by {
+        By::Port => port::start(&mut d.table, &mut d.arena, &mut d.terms, &mut d.used),
+        By::Model => ours::start(&mut d.table, &mut d.arena, &mut d.terms, &mut d.used),
+    };
+    vec![refusal.into()]
+}
+
+fn put(by: By, d: &mut Dictionary, kind: u32, bytes: &[u8]) -> Vec<u64> {
+    let (refusal, id) = match by {
+        By::Port => port::put(&mut d.table, &mut d.arena, &mut d.terms, &mut d.used, kind, bytes),
+        By::Model => ours::put(&mut d.table, &mut d.arena, &mut d.terms, &mut d.used, kind, bytes),
+    };
+    vec![refusal.into(), id.into()]
+}
+
+/// Of the empty part that a refused lookup gives only the length is promised.
+fn lookup(by: By, d: &Dictionary, id: u32) -> Vec<u64> {
+    let (refusal, kind, begin, len) = match by {
+        By::Port => port::lookup(&d.table, &d.arena, d.terms, d.used, id),
+        By::Model => ours::lookup(&d.table, &d.arena, d.terms, d.used, id),
+    };
+    vec![refusal.into(), kind.into(), if refusal == 0 { begin } else { 0 }, len]
+}
+
+fn run(by: By, d: &mut Dictionary, b: &mut Run) -> Vec<u64> {
+    let (table, arena, terms, used) = (&mut d.table, &mut d.arena, &mut d.terms, &mut d.used);
+    let (load, store, findings, work) = (&b.load, &mut b.store, &mut b.findings, &mut b.work);
+    let (refusal, triples, counts) = match by {
+        By::Port => port::run(port::Lent { table, arena, terms, used, load, store, findings, work }),
+        By::Model => ours::run(ours::Lent { table, arena, terms, used, load, store, findings, work }),
+    };
+    let mut result = vec![refusal.into(), triples.into()];
+    result.extend(counts.map(u64::from));
+    result
+}
+
+/// Says where two outcomes differ.
+pub fn difference(port: &After, model: &After) -> String {
+    let mut text = String::new();
+    if port.result != model.result {
+        text += &format!("  result: port {:?}, model {:?}\n", port.result, model.result);
+    }
+    let (p, m) = (&port.dictionary, &model.dictionary);
+    if (p.terms, p.used) != (m.terms, m.used) {
+        text += &format!("  counters: port {} {}, model {} {}\n", p.terms, p.used, m.terms, m.used);
+    }
+    let mut buffer = |name: &str, a: &[u8], b: &[u8]| {
+        if let Some(at) = a.iter().zip(b).position(|(x, y)| x != y) {
+            text += &format!("  {name}: byte {at} is {} in the port, {} in the model\n", a[at], b[at]);
+        }
+    };
+    buffer("table", &p.table, &m.table);
+    buffer("arena", &p.arena, &m.arena);
+    if let (Call::Run(p), Call::Run(m)) = (&port.call, &model.call) {
+        buffer("load", &p.load, &m.load);
+        buffer("store", &p.store, &m.store);
+        buffer("findings", &p.findings, &m.findings);
+        buffer("list work buffer", &p.work, &m.work);
+    }
+    text
+}

@@ -1,0 +1,110 @@
+//! Cases after the tables of OWL 2 Profiles, section 4.3: for each rule that document 01 names its premises and its conclusion.
+//!
+//! One-letter words are terms, each variable its own; `container`, `almost` and so on are terms of the rdf namespace.
+
+/// What a case must show.
+pub enum Conclusion {
+    Triple(&'static str),
+    Finding(&'static str),
+    /// 0 0 0 in the closure.
+    Zero,
+}
+
+use Conclusion::{Finding, Triple, Zero};
+
+pub struct Case {
+    /// The rule of section 4.3, or what document 01 has in its place.
+    pub name: &'static str,
+    /// Its number in document 01; 0 for a check or a part of the start.
+    pub rule: u32,
+    pub premises: &'static str,
+    pub conclusion: Conclusion,
+}
+
+const fn case(name: &'static str, rule: u32, premises: &'static str, conclusion: Conclusion) -> Case {
+    Case { name, rule, premises, conclusion }
+}
+
+pub const CASES: &[Case] = &[
+    // Table 4
+    case("eq-sym", 4, "x sameAs y", Triple("y sameAs x")),
+    case("eq-trans", 8, "x sameAs y, y sameAs z", Triple("x sameAs z")),
+    case("eq-rep-s", 5, "s sameAs t, s p o", Triple("t p o")),
+    case("eq-rep-p", 6, "p sameAs q, s p o", Triple("s q o")),
+    case("eq-rep-o", 7, "o sameAs q, s p o", Triple("s p q")),
+    // Table 5
+    case("prp-dom", 2, "p domain c, x p y", Triple("x type c")),
+    case("prp-rng", 3, "p range c, x p y", Triple("y type c")),
+    case("prp-fp", 9, "p type FunctionalProperty, x p y, x p z", Triple("y sameAs z")),
+    case("prp-fp, else zero", 9, "p type FunctionalProperty, x p y, z p w", Zero),
+    case("prp-ifp", 10, "p type InverseFunctionalProperty, x p y, z p y", Triple("x sameAs z")),
+    case("prp-ifp as coded", 10, "p type InverseFunctionalProperty, x p y, z p w", Triple("x sameAs z")),
+    case("prp-irp", 0, "p type IrreflexiveProperty, x p x", Finding("2 p x")),
+    case("prp-symp", 18, "p type SymmetricProperty, x p y", Triple("y p x")),
+    case("prp-asyp", 0, "p type AsymmetricProperty, x p y, y p x", Finding("3 p x y")),
+    case("prp-trp", 19, "p type TransitiveProperty, x p y, y p z", Triple("x p z")),
+    case("prp-spo1", 11, "p subPropertyOf q, x p y", Triple("x q y")),
+    case("prp-eqp1", 20, "p equivalentProperty q, x p y", Triple("x q y")),
+    case("prp-eqp2", 20, "p equivalentProperty q, x q y", Triple("x p y")),
+    case("prp-pdw", 0, "p propertyDisjointWith q, x p y, x q y", Finding("4 x y p q")),
+    case("prp-inv1", 12, "p inverseOf q, x p y", Triple("y q x")),
+    case("prp-inv2", 13, "p inverseOf q, x q y", Triple("y p x")),
+    // Table 6
+    case("cls-thing", 0, "", Triple("Thing type Class")),
+    case("cls-nothing1", 0, "", Triple("Nothing type Class")),
+    case("cls-nothing2", 0, "x type Nothing", Finding("5 x")),
+    case(
+        "cls-int1",
+        21,
+        "y type c, y type d, e intersectionOf l, l first c, l rest m, m first d, m rest nil",
+        Triple("y type e"),
+    ),
+    case("cls-int1, one class", 21, "y type c, e intersectionOf l, l first c, l rest nil", Triple("y type e")),
+    case("cls-int2", 22, "y type e, e intersectionOf l, l first c, l rest m, m first d, m rest nil", Triple("y type d")),
+    case("cls-uni", 23, "y type d, e unionOf l, l first c, l rest m, m first d, m rest nil", Triple("y type e")),
+    case("cls-svf1", 27, "r someValuesFrom c, r onProperty p, u p v, v type c", Triple("u type r")),
+    case("cls-svf1, else zero", 27, "r someValuesFrom Thing, r onProperty p, u p v, v type c", Zero),
+    case("cls-svf2", 28, "r someValuesFrom Thing, r onProperty p, u p v", Triple("u type r")),
+    case("cls-svf2, else zero", 28, "r someValuesFrom c, r onProperty p, u p v", Zero),
+    case("cls-avf", 26, "r allValuesFrom c, r onProperty p, u type r, u p v", Triple("v type c")),
+    case("cls-avf, else zero", 26, "r allValuesFrom c, r onProperty p, u type r", Zero),
+    case("cls-hv1", 24, "r hasValue v, r onProperty p, u type r", Triple("u p v")),
+    case("cls-hv2", 25, "r hasValue v, r onProperty p, u p v", Triple("u type r")),
+    case("cls-hv2, else zero", 25, "r hasValue v, r onProperty p, u p w", Zero),
+    // Table 7
+    case("cax-sco", 14, "c subClassOf d, x type c", Triple("x type d")),
+    case("cax-eqc1", 17, "c equivalentClass d, x type c", Triple("x type d")),
+    case("cax-eqc2", 17, "c equivalentClass d, x type d", Triple("x type c")),
+    case("cax-dw", 0, "c disjointWith d, x type c, x type d", Finding("1 x c d")),
+    // Table 9
+    case("scm-sco", 15, "c subClassOf d, d subClassOf e", Triple("c subClassOf e")),
+    case("scm-eqc1", 16, "c equivalentClass d", Triple("c subClassOf d")),
+    case("scm-eqc1, reversed", 16, "c equivalentClass d", Triple("d subClassOf c")),
+    // Not of section 4.3
+    case("every subject a Thing", 1, "s p o", Triple("s type Thing")),
+    case("rdf:_1", 0, "x _1 y", Triple("x member y")),
+    case("rdf:_01", 0, "x _01 y", Triple("_01 type ContainerMembershipProperty")),
+    case("rdf:_18446744073709551615", 0, "x _18446744073709551615 y", Triple("_18446744073709551615 type Property")),
+];
+
+/// Models in which document 01's conclusion must be missing though every premise is there: slips that it names, and near misses.
+pub const NEAR: &[Case] = &[
+    case("rdf:_0 is none", 0, "x _0 y", Triple("x member y")),
+    case("rdf:_ is none", 0, "x _ y", Triple("x member y")),
+    case("rdf:_18446744073709551616 is none", 0, "x _18446744073709551616 y", Triple("x member y")),
+    case("a container property as subject", 0, "_1 p y", Triple("_1 type Property")),
+    case("disjointWith reversed", 0, "c disjointWith d, x type c, x type d", Finding("1 x d c")),
+    case("propertyDisjointWith reversed", 0, "p propertyDisjointWith q, x p y, x q y", Finding("4 x y q p")),
+    case(
+        "two lists that end in nil",
+        0,
+        "e unionOf l, l first c, l rest nil, m first d, m rest nil, y type d",
+        Triple("y type e"),
+    ),
+    case("a list of the closure", 0, "p subPropertyOf first, l p c, e unionOf l, y type c", Triple("y type e")),
+    case("an intersection of nothing", 0, "e intersectionOf nil, x p y", Triple("x type e")),
+    case("cls-com", 0, "c complementOf d, x type c, x type d", Finding("1 x c d")),
+    case("scm-eqc2", 0, "c subClassOf d, d subClassOf c", Triple("c equivalentClass d")),
+    case("scm-spo", 0, "p subPropertyOf q, q subPropertyOf r", Triple("p subPropertyOf r")),
+    case("eq-ref", 0, "s p o", Triple("s sameAs s")),
+];

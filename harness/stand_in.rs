@@ -1,0 +1,157 @@
+//! The model of document 01 behind the port's C entry points: what the harness links where there is no port, and with what the
+//! harness itself is tried. With FAULT set in the environment it does one thing wrong, and the programs must notice:
+//!
+//!   rule K      rule K is left out                 zero        triples with an id 0 are dropped early
+//!   check K     check K reports nothing            dirty       store and findings are not cleared after a refusal 8 or 9
+//!   refusal K   number K is answered as K + 1      counter     a put counts a byte too many
+
+use model::bytes::{self, Lent};
+use std::slice::{from_raw_parts, from_raw_parts_mut};
+use std::sync::OnceLock;
+
+#[derive(Default)]
+struct Fault {
+    without: u32,
+    check: u32,
+    refusal: u32,
+    dirty: bool,
+    counter: bool,
+}
+
+fn fault() -> &'static Fault {
+    static FAULT: OnceLock<Fault> = OnceLock::new();
+    FAULT.get_or_init(|| {
+        let text = std::env::var("FAULT").unwrap_or_default();
+        let number = || text.split(' ').nth(1).and_then(|k| k.parse::<u32>().ok()).expect("FAULT has a number");
+        match text.split(' ').next().unwrap_or("") {
+            "" => Fault::default(),
+            "rule" => Fault { without: 1 << number(), ..Fault::default() },
+            "zero" => Fault { without: 1, ..Fault::default() },
+            "check" => Fault { check: number(), ..Fault::default() },
+            "refusal" => Fault { refusal: number(), ..Fault::default() },
+            "dirty" => Fault { dirty: true, ..Fault::default() },
+            "counter" => Fault { counter: true, ..Fault::default() },
+            _ => panic!("no fault {text}"),
+        }
+    })
+}
+
+fn answered(refusal: u32) -> u32 {
+    if refusal != 0 && refusal == fault().refusal {
+        refusal + 1
+    } else {
+        refusal
+    }
+}
+
+/// # Safety
+/// Each pointer is valid for its length, and for the call; none of them overlap.
+#[no_mangle]
+pub unsafe extern "C" fn tablestork_start(
+    table: *mut u8,
+    table_len: usize,
+    arena: *mut u8,
+    arena_len: usize,
+    terms: *mut u32,
+    used: *mut u32,
+) -> u32 {
+    let (table, arena) = (from_raw_parts_mut(table, table_len), from_raw_parts_mut(arena, arena_len));
+    answered(bytes::start(table, arena, &mut *terms, &mut *used))
+}
+
+/// # Safety
+/// As for `tablestork_start`.
+#[no_mangle]
+pub unsafe extern "C" fn tablestork_put(
+    table: *mut u8,
+    table_len: usize,
+    arena: *mut u8,
+    arena_len: usize,
+    terms: *mut u32,
+    used: *mut u32,
+    kind: u32,
+    term: *const u8,
+    term_len: usize,
+    id: *mut u32,
+) -> u32 {
+    let (table, arena) = (from_raw_parts_mut(table, table_len), from_raw_parts_mut(arena, arena_len));
+    let before = *terms;
+    let (refusal, at) = bytes::put(table, arena, &mut *terms, &mut *used, kind, from_raw_parts(term, term_len));
+    if fault().counter && *terms > before {
+        *used += 1;
+    }
+    *id = at;
+    answered(refusal)
+}
+
+/// # Safety
+/// As for `tablestork_start`.
+#[no_mangle]
+pub unsafe extern "C" fn tablestork_lookup(
+    table: *const u8,
+    table_len: usize,
+    arena: *const u8,
+    arena_len: usize,
+    terms: u32,
+    used: u32,
+    id: u32,
+    kind: *mut u32,
+    begin: *mut u64,
+    len: *mut u64,
+) -> u32 {
+    let (table, arena) = (from_raw_parts(table, table_len), from_raw_parts(arena, arena_len));
+    let refusal;
+    (refusal, *kind, *begin, *len) = bytes::lookup(table, arena, terms, used, id);
+    answered(refusal)
+}
+
+/// # Safety
+/// As for `tablestork_start`.
+#[no_mangle]
+pub unsafe extern "C" fn tablestork_run(
+    table: *mut u8,
+    table_len: usize,
+    arena: *mut u8,
+    arena_len: usize,
+    terms: *mut u32,
+    used: *mut u32,
+    load: *const u8,
+    load_len: usize,
+    store: *mut u8,
+    store_len: usize,
+    findings: *mut u8,
+    findings_len: usize,
+    work: *mut u8,
+    work_len: usize,
+    triples: *mut u32,
+    counts: *mut [u32; 5],
+) -> u32 {
+    let lent = Lent {
+        table: from_raw_parts_mut(table, table_len),
+        arena: from_raw_parts_mut(arena, arena_len),
+        terms: &mut *terms,
+        used: &mut *used,
+        load: from_raw_parts(load, load_len),
+        store: from_raw_parts_mut(store, store_len),
+        findings: from_raw_parts_mut(findings, findings_len),
+        work: from_raw_parts_mut(work, work_len),
+    };
+    let before = fault().dirty.then(|| lent.store.to_vec());
+    let refusal;
+    (refusal, *triples, *counts) = bytes::run_without(lent, fault().without);
+    if let (Some(before), 8..) = (before, refusal) {
+        from_raw_parts_mut(store, store_len).copy_from_slice(&before);
+    }
+    if fault().check != 0 {
+        forget_check(fault().check, from_raw_parts_mut(findings, findings_len), &mut *counts);
+    }
+    answered(refusal)
+}
+
+/// Takes a check's records out of the findings.
+fn forget_check(check: u32, findings: &mut [u8], counts: &mut [u32; 5]) {
+    let mut rows: Vec<Vec<u8>> = findings.chunks(20).map(<[u8]>::to_vec).filter(|row| row[..4] != check.to_le_bytes()).collect();
+    rows.resize(findings.len() / 20, vec![0; 20]);
+    findings[..20 * rows.len()].copy_from_slice(&rows.concat());
+    counts[check as usize - 1] = 0;
+}

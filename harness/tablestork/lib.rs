@@ -1,0 +1,200 @@
+//! The port as a safe Rust crate: an owned dictionary, and runs that hand back owned answers.
+//!
+//! A call of the port needs some megabytes of stack for its tables; `with_stack` gives a thread enough.
+
+pub mod port;
+
+#[cfg(test)]
+mod tests;
+
+pub type Triple = [u32; 3];
+pub type Finding = [u32; 5];
+
+/// The refusals, by the numbers of document 01.
+#[derive(Clone, Copy, Debug, PartialEq, Eq, Hash)]
+#[repr(u32)]
+pub enum Refusal {
+    BrokenDictionary = 1,
+    RaggedLoad = 2,
+    LoadTooLong = 3,
+    IllSizedStore = 4,
+    BlankId = 5,
+    UnknownTerm = 6,
+    DictionaryFull = 7,
+    StoreFull = 8,
+    FindingsFull = 9,
+    UnknownKind = 10,
+    TermTooLong = 11,
+    NoSuchId = 12,
+}
+
+impl Refusal {
+    pub const ALL: [Refusal; 12] = [
+        Refusal::BrokenDictionary,
+        Refusal::RaggedLoad,
+        Refusal::LoadTooLong,
+        Refusal::IllSizedStore,
+        Refusal::BlankId,
+        Refusal::UnknownTerm,
+        Refusal::DictionaryFull,
+        Refusal::StoreFull,
+        Refusal::FindingsFull,
+        Refusal::UnknownKind,
+        Refusal::TermTooLong,
+        Refusal::NoSuchId,
+    ];
+
+    /// Nothing for 0; else the refusal of this number.
+    fn check(number: u32) -> Result<(), Refusal> {
+        match number {
+            0 => Ok(()),
+            n => Err(*Refusal::ALL.get(n as usize - 1).unwrap_or_else(|| panic!("no refusal has number {n}"))),
+        }
+    }
+}
+
+#[derive(Clone, Copy, Debug, PartialEq, Eq)]
+#[repr(u32)]
+pub enum Kind {
+    NamedNode = 1,
+    BlankNode = 2,
+    Literal = 3,
+}
+
+impl Kind {
+    fn of(number: u32) -> Kind {
+        match number {
+            1 => Kind::NamedNode,
+            2 => Kind::BlankNode,
+            3 => Kind::Literal,
+            n => panic!("no kind has number {n}"),
+        }
+    }
+}
+
+/// A table, an arena and the two counters of `put`.
+#[derive(Clone, Debug, PartialEq, Eq)]
+pub struct Dictionary {
+    table: Vec<u8>,
+    arena: Vec<u8>,
+    terms: u32,
+    used: u32,
+}
+
+/// An accepted run's answer and findings, each strictly ascending, and the count of each check.
+#[derive(Clone, Debug, PartialEq, Eq)]
+pub struct Closed {
+    pub triples: Vec<Triple>,
+    pub findings: Vec<Finding>,
+    pub counts: [u32; 5],
+}
+
+impl Dictionary {
+    /// A started dictionary with room for this many entries, `urn:_` and the vocabulary among them, and bytes.
+    pub fn start(entries: usize, bytes: usize) -> Result<Dictionary, Refusal> {
+        let mut d = Dictionary { table: vec![0; 4 * (64 + 4 * entries)], arena: vec![0; bytes], terms: 0, used: 0 };
+        Refusal::check(port::start(&mut d.table, &mut d.arena, &mut d.terms, &mut d.used))?;
+        Ok(d)
+    }
+
+    /// A dictionary from its parts. Every call on it checks that a start and puts could have left them.
+    pub fn from_parts(table: &[u32], arena: Vec<u8>, terms: u32, used: u32) -> Dictionary {
+        Dictionary { table: to_bytes(table), arena, terms, used }
+    }
+
+    /// The number of terms held, `urn:_` counted.
+    pub fn terms(&self) -> u32 {
+        self.terms
+    }
+
+    /// The id of a term; a new one is added.
+    pub fn put(&mut self, kind: Kind, bytes: &[u8]) -> Result<u32, Refusal> {
+        let (refusal, id) = port::put(&mut self.table, &mut self.arena, &mut self.terms, &mut self.used, kind as u32, bytes);
+        Refusal::check(refusal).map(|()| id)
+    }
+
+    /// A held term.
+    pub fn lookup(&self, id: u32) -> Result<(Kind, &[u8]), Refusal> {
+        let (refusal, kind, begin, len) = port::lookup(&self.table, &self.arena, self.terms, self.used, id);
+        Refusal::check(refusal)?;
+        Ok((Kind::of(kind), &self.arena[begin as usize..(begin + len) as usize]))
+    }
+
+    /// How many numbers a run's list work buffer needs: two for each term, three terms more counted.
+    pub fn work_length(&self) -> usize {
+        2 * (self.terms as usize + 3)
+    }
+
+    /// Closes a load into a store for this many triples, with findings for this many records.
+    pub fn run(&mut self, load: &[Triple], triples: usize, records: usize) -> Result<Closed, Refusal> {
+        let mut buffers = Buffers::new(load, triples, records, self.work_length());
+        let (count, counts) = self.run_in(&mut buffers)?;
+        Ok(buffers.closed(count, counts))
+    }
+
+    /// The same in buffers that the caller made, for a time of the run alone: the triple count, and the count of each check.
+    pub fn run_in(&mut self, b: &mut Buffers) -> Result<(u32, [u32; 5]), Refusal> {
+        let (refusal, count, counts) = port::run(port::Lent {
+            table: &mut self.table,
+            arena: &mut self.arena,
+            terms: &mut self.terms,
+            used: &mut self.used,
+            load: &b.load,
+            store: &mut b.store,
+            findings: &mut b.findings,
+            work: &mut b.work,
+        });
+        Refusal::check(refusal).map(|()| (count, counts))
+    }
+}
+
+/// What a run is lent beside the dictionary, cleared.
+pub struct Buffers {
+    load: Vec<u8>,
+    store: Vec<u8>,
+    findings: Vec<u8>,
+    work: Vec<u8>,
+}
+
+impl Buffers {
+    pub fn new(load: &[Triple], triples: usize, records: usize, work: usize) -> Buffers {
+        Buffers {
+            load: to_bytes(load.as_flattened()),
+            store: vec![0; 12 * triples],
+            findings: vec![0; 20 * records],
+            work: vec![0; 4 * work],
+        }
+    }
+
+    pub fn clear(&mut self) {
+        self.store.fill(0);
+        self.findings.fill(0);
+        self.work.fill(0);
+    }
+
+    /// What an accepted run left.
+    pub fn closed(&self, count: u32, counts: [u32; 5]) -> Closed {
+        let records = counts.iter().sum::<u32>() as usize;
+        Closed { triples: rows(&self.store, count as usize), findings: rows(&self.findings, records), counts }
+    }
+}
+
+fn to_bytes(numbers: &[u32]) -> Vec<u8> {
+    numbers.iter().flat_map(|n| n.to_le_bytes()).collect()
+}
+
+/// The first `n` rows of a buffer; the rest is zero.
+fn rows<const W: usize>(bytes: &[u8], n: usize) -> Vec<[u32; W]> {
+    let (rows, rest) = bytes.split_at(4 * W * n);
+    assert!(rest.iter().all(|b| *b == 0), "a buffer is not zero behind its rows");
+    let number = |b: &[u8]| u32::from_le_bytes(b.try_into().expect("four bytes"));
+    rows.chunks(4 * W).map(|row| std::array::from_fn(|k| number(&row[4 * k..4 * k + 4]))).collect()
+}
+
+/// Runs `work` on a thread with stack enough for the port's tables.
+pub fn with_stack<T: Send>(work: impl FnOnce() -> T + Send) -> T {
+    std::thread::scope(|scope| {
+        let thread = std::thread::Builder::new().stack_size(256 << 20).spawn_scoped(scope, work).expect("a thread");
+        thread.join().unwrap_or_else(|e| std::panic::resume_unwind(e))
+    })
+}

@@ -1,0 +1,147 @@
+//! The port's C entry points, and safe calls over byte slices with the same arguments and results. Ids are little-endian.
+//!
+//! This is the one place that names the entry points. They come from the static library that the link line names; in a build
+//! with `--cfg stand_in` the model of document 01 stands in for it (stand_in.rs).
+
+#[cfg(stand_in)]
+extern crate stand_in as _;
+
+extern "C" {
+    fn tablestork_start(
+        table: *mut u8,
+        table_len: usize,
+        arena: *mut u8,
+        arena_len: usize,
+        terms: *mut u32,
+        used: *mut u32,
+    ) -> u32;
+    fn tablestork_put(
+        table: *mut u8,
+        table_len: usize,
+        arena: *mut u8,
+        arena_len: usize,
+        terms: *mut u32,
+        used: *mut u32,
+        kind: u32,
+        bytes: *const u8,
+        bytes_len: usize,
+        id: *mut u32,
+    ) -> u32;
+    fn tablestork_lookup(
+        table: *const u8,
+        table_len: usize,
+        arena: *const u8,
+        arena_len: usize,
+        terms: u32,
+        used: u32,
+        id: u32,
+        kind: *mut u32,
+        begin: *mut u64,
+        len: *mut u64,
+    ) -> u32;
+    fn tablestork_run(
+        table: *mut u8,
+        table_len: usize,
+        arena: *mut u8,
+        arena_len: usize,
+        terms: *mut u32,
+        used: *mut u32,
+        load: *const u8,
+        load_len: usize,
+        store: *mut u8,
+        store_len: usize,
+        findings: *mut u8,
+        findings_len: usize,
+        work: *mut u8,
+        work_len: usize,
+        triples: *mut u32,
+        counts: *mut [u32; 5],
+    ) -> u32;
+}
+
+/// A number that no call gives back, to see that each result is written.
+const UNWRITTEN: u32 = 0xdead_beef;
+
+/// Refusal.
+pub fn start(table: &mut [u8], arena: &mut [u8], terms: &mut u32, used: &mut u32) -> u32 {
+    // Each pointer comes from a reference that lives through the call, with its own length.
+    unsafe { tablestork_start(table.as_mut_ptr(), table.len(), arena.as_mut_ptr(), arena.len(), terms, used) }
+}
+
+/// Refusal and id.
+pub fn put(table: &mut [u8], arena: &mut [u8], terms: &mut u32, used: &mut u32, kind: u32, bytes: &[u8]) -> (u32, u32) {
+    let mut id = UNWRITTEN;
+    let refusal = unsafe {
+        tablestork_put(
+            table.as_mut_ptr(),
+            table.len(),
+            arena.as_mut_ptr(),
+            arena.len(),
+            terms,
+            used,
+            kind,
+            bytes.as_ptr(),
+            bytes.len(),
+            &mut id,
+        )
+    };
+    (refusal, id)
+}
+
+/// Refusal, kind, and the place and length of the term's bytes in the arena.
+pub fn lookup(table: &[u8], arena: &[u8], terms: u32, used: u32, id: u32) -> (u32, u32, u64, u64) {
+    let (mut kind, mut begin, mut len) = (UNWRITTEN, u64::from(UNWRITTEN), u64::from(UNWRITTEN));
+    let refusal = unsafe {
+        tablestork_lookup(
+            table.as_ptr(),
+            table.len(),
+            arena.as_ptr(),
+            arena.len(),
+            terms,
+            used,
+            id,
+            &mut kind,
+            &mut begin,
+            &mut len,
+        )
+    };
+    (refusal, kind, begin, len)
+}
+
+/// What a run is lent.
+pub struct Lent<'a> {
+    pub table: &'a mut [u8],
+    pub arena: &'a mut [u8],
+    pub terms: &'a mut u32,
+    pub used: &'a mut u32,
+    pub load: &'a [u8],
+    pub store: &'a mut [u8],
+    pub findings: &'a mut [u8],
+    pub work: &'a mut [u8],
+}
+
+/// Refusal, triple count, and the count of each check.
+pub fn run(lent: Lent) -> (u32, u32, [u32; 5]) {
+    let (mut triples, mut counts) = (UNWRITTEN, [UNWRITTEN; 5]);
+    let refusal = unsafe {
+        tablestork_run(
+            lent.table.as_mut_ptr(),
+            lent.table.len(),
+            lent.arena.as_mut_ptr(),
+            lent.arena.len(),
+            lent.terms,
+            lent.used,
+            lent.load.as_ptr(),
+            lent.load.len(),
+            lent.store.as_mut_ptr(),
+            lent.store.len(),
+            lent.findings.as_mut_ptr(),
+            lent.findings.len(),
+            lent.work.as_mut_ptr(),
+            lent.work.len(),
+            &mut triples,
+            &mut counts,
+        )
+    };
+    (refusal, triples, counts)
+}
