@@ -1,9 +1,9 @@
 // Measures crate rows beside Rust's own on the same rows in one run: sorting beside sort_unstable, appending with repeats beside
-// HashSet. A time is the best of several turns, and what both leave is compared. From the repository's root:
+// HashSet. Both take turns, a time is the best of them, and what both leave is compared. Times are the thread's own, so that other
+// work on the machine counts little. From the repository's root:
 //     rt staticlib rows_bench
 //     rustc --edition 2021 -O -o target/rows_bench -L target/staticlib -l static=rows_bench harness/rows_bench/main.rs && target/rows_bench
 use std::collections::HashSet;
-use std::time::Instant;
 
 extern "C" {
     fn rows_bench_sort_triples(buf: *mut u32, len: usize, n: usize);
@@ -19,8 +19,26 @@ extern "C" {
     ) -> usize;
 }
 
+#[repr(C)]
+struct Timespec {
+    seconds: i64,
+    nanoseconds: i64,
+}
+
+extern "C" {
+    fn clock_gettime(clock: i32, time: *mut Timespec) -> i32;
+}
+
+// The milliseconds that this thread has run.
+fn clock() -> f64 {
+    const CLOCK_THREAD_CPUTIME_ID: i32 = 3;
+    let mut t = Timespec { seconds: 0, nanoseconds: 0 };
+    unsafe { clock_gettime(CLOCK_THREAD_CPUTIME_ID, &mut t) };
+    t.seconds as f64 * 1e3 + t.nanoseconds as f64 / 1e6
+}
+
 const ROWS: usize = 65_535;
-const TURNS: usize = 25;
+const TURNS: usize = 30;
 
 struct Random(u64);
 
@@ -33,17 +51,26 @@ impl Random {
     }
 }
 
-// The least milliseconds of a turn, and what the last turn left.
-fn best<T>(mut start: impl FnMut() -> T, mut turn: impl FnMut(&mut T)) -> (f64, T) {
-    let mut least = f64::MAX;
-    let mut last = start();
+// Two ways to the same end, turn by turn: the least milliseconds of each, and what the last turn of each left.
+fn beside<A, B>(
+    start: impl Fn() -> A,
+    turn: impl Fn(&mut A),
+    rust_start: impl Fn() -> B,
+    rust_turn: impl Fn(&mut B),
+) -> (f64, A, f64, B) {
+    let (mut least, mut rust_least) = (f64::MAX, f64::MAX);
+    let (mut last, mut rust_last) = (start(), rust_start());
     for _ in 0..TURNS {
         last = start();
-        let clock = Instant::now();
+        let before = clock();
         turn(&mut last);
-        least = least.min(clock.elapsed().as_secs_f64() * 1e3);
+        least = least.min(clock() - before);
+        rust_last = rust_start();
+        let before = clock();
+        rust_turn(&mut rust_last);
+        rust_least = rust_least.min(clock() - before);
     }
-    (least, last)
+    (least, last, rust_least, rust_last)
 }
 
 fn sort_here(buf: &mut [u32], width: usize, n: usize) {
@@ -55,8 +82,8 @@ fn sort_here(buf: &mut [u32], width: usize, n: usize) {
 
 fn sort<const W: usize>(name: &str, rows: &[[u32; W]]) {
     let flat = rows.concat();
-    let (here, ours) = best(|| flat.clone(), |b| sort_here(b, W, rows.len()));
-    let (rust, theirs) = best(|| rows.to_vec(), |v| v.sort_unstable());
+    let (here, ours, rust, theirs) =
+        beside(|| flat.clone(), |b| sort_here(b, W, rows.len()), || rows.to_vec(), |v: &mut Vec<[u32; W]>| v.sort_unstable());
     assert!(ours == theirs.concat(), "{name}: not the rows that Rust leaves");
     println!("sort   width {W} {name:36} {here:7.3} ms, sort_unstable {rust:7.3} ms, ratio {:6.2}", here / rust);
 }
@@ -87,16 +114,19 @@ fn sorts<const W: usize>(random: &mut Random) {
 
 fn append(name: &str, rows: &[[u32; 3]]) {
     let flat = rows.concat();
-    let start = || (vec![0u32; 3 * ROWS], vec![0u32; 131_072], 0);
-    let (here, (store, _, count)) = best(start, |(store, hash, count)| {
-        let (s, h) = (store.len(), hash.len());
-        *count = unsafe { rows_bench_append(flat.as_ptr(), flat.len(), store.as_mut_ptr(), s, hash.as_mut_ptr(), h, rows.len()) };
-    });
-    let (rust, set) = best(HashSet::new, |s: &mut HashSet<[u32; 3]>| {
-        for r in rows {
-            s.insert(*r);
-        }
-    });
+    let (here, (store, _, count), rust, set) = beside(
+        || (vec![0u32; 3 * ROWS], vec![0u32; 131_072], 0),
+        |(store, hash, count)| {
+            let (s, h) = (store.len(), hash.len());
+            *count = unsafe { rows_bench_append(flat.as_ptr(), flat.len(), store.as_mut_ptr(), s, hash.as_mut_ptr(), h, rows.len()) };
+        },
+        HashSet::new,
+        |s: &mut HashSet<[u32; 3]>| {
+            for r in rows {
+                s.insert(*r);
+            }
+        },
+    );
     let ours: HashSet<[u32; 3]> = store[..3 * count].chunks(3).map(|r| [r[0], r[1], r[2]]).collect();
     assert!(count == set.len() && ours == set, "{name}: not the rows that the set has");
     println!("append {name:44} {count:5} kept {here:7.3} ms, HashSet {rust:7.3} ms, ratio {:6.2}", here / rust);

@@ -1,12 +1,14 @@
-// Rows of numbers in a lent slice: a store of triples with its membership hash, and chains of rows by key.
+// Rows of numbers in a lent slice: a store of triples with its membership hash, chains of rows by key, the sort, and the answer at the end.
 pub mod answer; // answer.rt: what stands in the store at the end
-pub mod chains; // chains.rt: the rows that have one key, first to last
+pub mod chains; // chains.rt: the rows that have one key, the latest first
 pub mod sort; // sort.rt: rows of any width, put in order in place
 pub mod store; // store.rt: rows read, written, compared, looked up and appended
 
 pub use answer::clear_from;
 pub use answer::leave_answer;
 pub use answer::remove_zero_rows;
+pub use chains::BLOCK;
+pub use chains::KEYS;
 pub use chains::count_of;
 pub use chains::enter;
 pub use chains::head;
