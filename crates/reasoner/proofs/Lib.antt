@@ -1,2 +1,3 @@
 pub mod Outcome
 pub mod Closing
+pub mod Refusing

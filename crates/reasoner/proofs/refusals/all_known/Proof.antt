@@ -1,0 +1,58 @@
+-- `reasoner::all_known` meets its contract. Assumes nothing.
+use Prim.Native.Nat.{ℕ, _+_, _-_, _≤_}
+use mathlib.Core.Path.{_≡_, refl, sym, ap, _∙_}
+use mathlib.Core.Bool.{Bool, true, false, not}
+use lib.Dec.{eqb, ltb}
+use lib.ListN.{length, drop}
+use native.Mathlib.Omega.{arith}
+use borrow.Author.Needs.{needs}
+use borrow.Author.Tests.{eq-eqb, ne-eqb, lt-ltb, le-ltb}
+use Rattle.common.specs.Table.{all}
+use Rattle.reasoner.proofs.Refusing.{all-start, all-step, all-fails, all-end}
+use Rattle.reasoner.proofs.refusals.all_known.Statement.{statement}
+use Rattle.reasoner.proofs.refusals.all_known.Tie as tie
+
+abbrev Inv-loop : tie.InvT-loop
+Inv-loop load terms j₀ j = (j ≤ length load) × (all (λ i. ltb i terms) load ≡ all (λ i. ltb i terms) (drop j load))
+
+abbrev μ-loop : tie.MeasureT-loop
+μ-loop load terms j₀ j = length load - j
+
+loop-holds : tie.Need-loop-holds Inv-loop μ-loop
+loop-holds c = (omega arith, all-start (λ i. ltb i ((c .args) .terms)) ((c .args) .load .now))
+
+mul-if1 : tie.Need-mul-if1 Inv-loop μ-loop
+mul-if1 c = search needs
+
+shared-slice-read-if1 : tie.Need-shared-slice-read-if1 Inv-loop μ-loop
+shared-slice-read-if1 c = search needs
+
+returns : tie.Need-returns Inv-loop μ-loop
+returns c = all-fails (λ i. ltb i ((c .before .before .before .before .args) .terms)) ((c .before .before .before .before .args) .load .now) ((c .before .before .before .loop) .j) ((c .before .before .loop-test) .taken) (le-ltb _ _ ((c .if1) .taken)) ((c .before .before .before .loop) .inv .1)
+
+add-j : tie.Need-add-j Inv-loop μ-loop
+add-j c = search needs
+
+loop-less : tie.Need-loop-less Inv-loop μ-loop
+loop-less c = search needs
+
+loop-again : tie.Need-loop-again Inv-loop μ-loop
+loop-again c = (omega arith, all-step (λ i. ltb i ((c .before .before .before .before .args) .terms)) ((c .before .before .before .before .args) .load .now) ((c .before .before .before .loop) .j) ((c .before .before .loop-test) .taken) (lt-ltb _ _ ((c .if1) .left)) ((c .before .before .before .loop) .inv .1))
+
+returns-2 : tie.Need-returns-2 Inv-loop μ-loop
+returns-2 c = all-end (λ i. ltb i ((c .before .before .args) .terms)) ((c .before .before .args) .load .now) ((c .before .loop) .j) ((c .before .loop) .inv .0) ((c .loop-test) .left) ((c .before .loop) .inv .1)
+
+pub all-known-spec : {M : Type 1} → statement M
+all-known-spec =
+    tie.close
+    (tie.spec
+    Inv-loop
+    μ-loop
+    loop-holds
+    mul-if1
+    shared-slice-read-if1
+    returns
+    add-j
+    loop-less
+    loop-again
+    returns-2)
