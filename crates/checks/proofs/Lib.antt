@@ -1,0 +1,4 @@
+pub mod Answering
+pub mod Counting
+pub mod Appending
+pub mod Scanning

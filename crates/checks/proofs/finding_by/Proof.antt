@@ -1,0 +1,101 @@
+use borrow.Author.Needs.{needs}
+use Rattle.checks.proofs.finding_by.Statement.{statement}
+use Rattle.checks.proofs.finding_by.Tie as tie
+use Rattle.checks.proofs.finding_by.Reads as reads
+use Rattle.checks.proofs.finding_by.Lts as lts
+use Rattle.checks.proofs.make_finding.Reads as make-finding-reads
+
+-- src/lib.rt:115:31
+enum-told : tie.Need-enum-told
+enum-told c = search needs
+
+-- src/lib.rt:115:31
+make-finding-requires : tie.Need-make-finding-requires
+make-finding-requires c κs = search needs
+
+-- src/lib.rt:116:29
+enum-told-2 : tie.Need-enum-told-2
+enum-told-2 c = search needs
+
+-- src/lib.rt:116:29
+make-finding-requires-2 : tie.Need-make-finding-requires-2
+make-finding-requires-2 c κs = search needs
+
+-- src/lib.rt:117:30
+enum-told-3 : tie.Need-enum-told-3
+enum-told-3 c = search needs
+
+-- src/lib.rt:117:30
+make-finding-requires-3 : tie.Need-make-finding-requires-3
+make-finding-requires-3 c κs = search needs
+
+-- src/lib.rt:118:31
+enum-told-4 : tie.Need-enum-told-4
+enum-told-4 c = search needs
+
+-- src/lib.rt:118:31
+make-finding-requires-4 : tie.Need-make-finding-requires-4
+make-finding-requires-4 c κs = search needs
+
+-- src/lib.rt:119:30
+enum-told-5 : tie.Need-enum-told-5
+enum-told-5 c = search needs
+
+-- src/lib.rt:119:30
+make-finding-requires-5 : tie.Need-make-finding-requires-5
+make-finding-requires-5 c κs = search needs
+
+-- src/lib.rt:120:35
+enum-told-6 : tie.Need-enum-told-6
+enum-told-6 c = search needs
+
+-- src/lib.rt:120:35
+make-finding-requires-6 : tie.Need-make-finding-requires-6
+make-finding-requires-6 c κs = search needs
+
+-- src/lib.rt:111:1
+returns : tie.Need-returns
+returns c = ?
+
+-- src/lib.rt:111:1
+returns-2 : tie.Need-returns-2
+returns-2 c = ?
+
+-- src/lib.rt:111:1
+returns-3 : tie.Need-returns-3
+returns-3 c = ?
+
+-- src/lib.rt:111:1
+returns-4 : tie.Need-returns-4
+returns-4 c = ?
+
+-- src/lib.rt:111:1
+returns-5 : tie.Need-returns-5
+returns-5 c = ?
+
+-- src/lib.rt:111:1
+returns-6 : tie.Need-returns-6
+returns-6 c = ?
+
+pub finding-by-spec : {M : Type 1} → statement M
+finding-by-spec =
+    tie.close
+    (tie.spec
+    enum-told
+    make-finding-requires
+    enum-told-2
+    make-finding-requires-2
+    enum-told-3
+    make-finding-requires-3
+    enum-told-4
+    make-finding-requires-4
+    enum-told-5
+    make-finding-requires-5
+    enum-told-6
+    make-finding-requires-6
+    returns
+    returns-2
+    returns-3
+    returns-4
+    returns-5
+    returns-6)
