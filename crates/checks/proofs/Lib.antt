@@ -1,4 +1,6 @@
 pub mod Answering
+pub mod Pairing
 pub mod Counting
 pub mod Appending
 pub mod Scanning
+pub mod Whole

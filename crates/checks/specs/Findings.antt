@@ -4,7 +4,7 @@
 use mathlib.Core.Path.{_≡_}
 use mathlib.Core.Logic.{_≢_}
 use mathlib.Core.Bool.{Bool, true, false}
-use mathlib.Core.List.{List, _++_}
+use mathlib.Core.List.{List, [], _∷_, _++_}
 use Prim.Native.Nat.{ℕ, _+_, _-_, _*_, _/_, _%_, _≤_, _<_}
 use lib.ListN.{length, getD, set}
 use Rattle.common.specs.Triples.{Triple, Finding, In, Distinct}
@@ -26,6 +26,10 @@ raised counts k = set counts (k - 1) (getD counts (k - 1) 0 + 1)
 pub record Readable (l h ix : List ℕ) (n : ℕ) : Type 0 where
   pub good : Good l h n
   pub indexed : Indexed l n ix
+
+-- no records yet
+abbrev pub nothing-yet : Checked
+nothing-yet = record { n = 0; full = false; counts = 0 ∷ 0 ∷ 0 ∷ 0 ∷ 0 ∷ [] }
 
 -- a buffer that has its records and their counts
 pub record Ready (f : List ℕ) (a : Checked) : Type 0 where

@@ -139,13 +139,17 @@ pub record GivesWith (k : CheckKind) (l : List ℕ) (n : ℕ) (t : Triple) (x : 
   pub below : at < n
   pub gives : Gives k (row-graph l n) t (rowAt l at) x
 
+-- what row i gives, as an axiom of its check, with one of the first n rows
+pub record GivenByRow (l : List ℕ) (n i : ℕ) (x : Finding) : Type 0 where
+  pub kind : CheckKind
+  pub stated : Axiom kind (rowAt l i)
+  pub gives : GivesWith kind l n (rowAt l i) x
+
 -- what the first n rows give
 pub record GivenByRows (l : List ℕ) (n : ℕ) (x : Finding) : Type 0 where
-  pub kind : CheckKind
   pub at : ℕ
   pub below : at < n
-  pub stated : Axiom kind (rowAt l at)
-  pub gives : GivesWith kind l n (rowAt l at) x
+  pub gives : GivenByRow l n at x
 
 -- the answer r tells whether P holds
 pub record Answers (P : Type 0) (r : Bool) : Type 0 where

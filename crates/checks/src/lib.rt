@@ -14,11 +14,11 @@ ghost use mathlib.Core.Path.{_≡_};
 ghost use mathlib.Core.Bool.{true, false};
 ghost use Prim.Native.Nat.{ℕ, _+_, _-_, _*_, _≤_, _<_};
 ghost use lib.ListN.{length, getD};
-ghost use Rattle.common.specs.Triples.{triple};
+ghost use Rattle.common.specs.Triples.{triple, finding};
 ghost use Rattle.common.specs.Values.{triple-of};
-ghost use Rattle.rows.specs.Store.{Good, Small};
+ghost use Rattle.rows.specs.Store.{Good, Small, Indexed};
 ghost use Rattle.checks.specs.Pairs.{row-graph, finding-of, Axiom, KindOf, is-check, TypedByBoth, Reflexive, BothWays, RelatedByBoth, OfNothing, Violates, finding-by, block-by, key-by, GivesWith, GivenByRows, Answers};
-ghost use Rattle.checks.specs.Findings.{set-finding, raised, Readable, Ready, Appended, Buffer, Checks};
+ghost use Rattle.checks.specs.Findings.{set-finding, raised, Readable, nothing-yet, Ready, Appended, Buffer, Checks};
 
 // How many numbers a record has.
 pub const WIDTH: usize = 5;
@@ -122,7 +122,7 @@ fn finding_by(k: CheckKind, t: Triple, u: Triple) -> Finding
 }
 
 fn make_finding(check: u32, a: u32, b: u32, c: u32, d: u32) -> Finding
-    ensures { λ r. ⌜ (r .check ≡ check) × (r .a ≡ a) × (r .b ≡ b) × (r .c ≡ c) × (r .d ≡ d) ⌝ }
+    ensures { λ r. ⌜ finding-of r ≡ finding check a b c d ⌝ }
 {
     Finding { check, a, b, c, d }
 }
@@ -269,4 +269,82 @@ fn append(findings: &mut [u32], done: Checked, x: Finding) -> Checked
         full: false,
         counts: next,
     }
+}
+
+// Appends what the axiom t gives with each row.
+fn check_row(
+    store: &[u32],
+    hash: &[u32],
+    ix: &[u32],
+    n: usize,
+    findings: &mut [u32],
+    before: Checked,
+    k: CheckKind,
+    t: Triple,
+) -> Checked
+    requires { ⌜ Readable (now store) (now hash) (now ix) n × Ready (now findings) before × (before .full ≡ false) × Small (triple-of t) × (is-check k ≡ true) ⌝ }
+    ensures { λ r. ⌜ Appended (GivesWith k (now (store .entry)) n (triple-of t)) (now (findings .entry)) before (now (findings .exit)) r ⌝ }
+{
+    let block = block_by(k);
+    let key = wide(t.s.0);
+    let mut done = before;
+    let mut cur = head(ix, block, key);
+    while cur != 0 {
+        let u = row(store, cur - 1);
+        let next = link(ix, block, cur);
+        if !violates(store, hash, n, k, t, u) {
+            cur = next;
+            continue;
+        }
+        let a = append(&mut *findings, done, finding_by(k, t, u));
+        if a.full {
+            return a;
+        }
+        done = a;
+        cur = next;
+    }
+    done
+}
+
+// Appends what the first n rows give, from the last row to the first.
+fn check_rows(store: &[u32], hash: &[u32], ix: &[u32], n: usize, findings: &mut [u32]) -> Checked
+    requires { ⌜ Readable (now store) (now hash) (now ix) n × (length (now findings) ≤ 5 * 65535) ⌝ }
+    ensures { λ r. ⌜ Appended (GivenByRows (now (store .entry)) n) (now (findings .entry)) nothing-yet (now (findings .exit)) r ⌝ }
+{
+    let mut done = Checked {
+        n: 0,
+        full: false,
+        counts: [0; 5],
+    };
+    let mut i = n;
+    while i != 0 {
+        let t = row(store, i - 1);
+        let k = check_of(t);
+        if !is_check(k) {
+            i -= 1;
+            continue;
+        }
+        let a = check_row(store, hash, ix, n, &mut *findings, done, k, t);
+        if a.full {
+            return a;
+        }
+        done = a;
+        i -= 1;
+    }
+    done
+}
+
+// The findings of the first n rows, sorted, then zeros; or there are more findings than records.
+pub fn check(store: &[u32], hash: &[u32], ix: &[u32], n: usize, findings: &mut [u32]) -> Checked
+    requires { ⌜ Good (now store) (now hash) n × Indexed (now store) n (now ix) × Buffer (now findings) ⌝ }
+    ensures { λ r. ⌜ Checks (now (store .entry)) n (now (findings .entry)) r (now (findings .exit)) ⌝ }
+{
+    let found = check_rows(store, hash, ix, n, &mut *findings);
+    if found.full {
+        return found;
+    }
+    let count = found.n;
+    sort_rows(&mut *findings, WIDTH, count);
+    clear_from(&mut *findings, WIDTH * count);
+    found
 }

@@ -1,3 +1,8 @@
+-- `checks::append` meets its contract. Assumes nothing.
+use mathlib.Core.Path.{refl}
+use native.Mathlib.Omega.{arith}
+use Rattle.checks.specs.Pairs.{finding-of}
+use Rattle.checks.proofs.Appending.{count-few, appended-one, appended-full}
 use borrow.Author.Needs.{needs}
 use Rattle.checks.proofs.append.Statement.{statement}
 use Rattle.checks.proofs.append.Tie as tie
@@ -6,37 +11,29 @@ use Rattle.checks.proofs.append.Lts as lts
 use Rattle.checks.proofs.put_finding.Reads as put-finding-reads
 use Rattle.checks.proofs.raise.Reads as raise-reads
 
--- src/lib.rt:258:25
 mul-if1 : tie.Need-mul-if1
 mul-if1 c = search needs
 
--- src/lib.rt:258:25
 add-if1 : tie.Need-add-if1
 add-if1 c = search needs
 
--- src/lib.rt:259:9
 returns : tie.Need-returns
-returns c = ?
+returns c = appended-full (finding-of ((c .before .before .before .args) .x)) ((c .before .before .before .pre) .0) (omega arith) refl refl refl
 
--- src/lib.rt:265:5
 put-finding-requires : tie.Need-put-finding-requires
 put-finding-requires c κs = search needs
 
--- src/lib.rt:266:9
 raise-requires : tie.Need-raise-requires
-raise-requires c κs = ?
+raise-requires c κs = ((c .before .before .before .before .before .before .before .pre) .1, (c .before .before .before .before .before .before .before .pre) .2, count-few ((c .before .before .before .before .before .before .before .pre) .0) _ ((c .before .before .before .before .before .before .before .pre) .1) ((c .before .before .before .before .before .before .before .pre) .2))
 
--- src/lib.rt:268:12
 add-t7 : tie.Need-add-t7
 add-t7 c = search needs
 
--- src/lib.rt:252:1
 same-length : tie.Need-same-length
 same-length c = search needs
 
--- src/lib.rt:252:1
 returns-2 : tie.Need-returns-2
-returns-2 c = ?
+returns-2 c = appended-one (finding-of ((c .before .before .before .before .before .before .before .before .args) .x)) ((c .before .before .before .before .before .before .before .before .pre) .0) ((c .before .before .before .before .before .before .before .before .pre) .1) ((c .before .before .before .before .before .before .before .before .pre) .2) (omega (arith, (c .before .before .before .before .before .if1) .left)) refl refl ((c .raise) .ensures) ((c .before .before .before .put-finding) .ensures)
 
 pub append-spec : {M : Type 1} → statement M
 append-spec =

@@ -1,3 +1,6 @@
+-- `checks::cax_dw` meets its contract. Assumes nothing.
+use native.Mathlib.Omega.{arith}
+use Rattle.checks.proofs.Answering.{answers-no, answers-iff, answers-found, small-triple}
 use borrow.Author.Needs.{needs}
 use Rattle.checks.proofs.cax_dw.Statement.{statement}
 use Rattle.checks.proofs.cax_dw.Tie as tie
@@ -6,25 +9,20 @@ use Rattle.checks.proofs.cax_dw.Lts as lts
 use Rattle.checks.proofs.make_triple.Reads as make-triple-reads
 use Rattle.rows.proofs.contains.Reads as contains-reads
 
--- src/lib.rt:142:9
 returns : tie.Need-returns
-returns c = ?
+returns c = answers-no (λ w. (c .if1) .taken (w .typed))
 
--- src/lib.rt:145:9
 returns-2 : tie.Need-returns-2
-returns-2 c = ?
+returns-2 c = answers-no (λ w. w .nonzero ((c .if2) .taken))
 
--- src/lib.rt:147:30
 make-triple-requires : tie.Need-make-triple-requires
 make-triple-requires c κs = search needs
 
--- src/lib.rt:147:5
 contains-requires : tie.Need-contains-requires
-contains-requires c κs = ?
+contains-requires c κs = ((c .before .before .before .before .before .before .before .before .pre) .0, small-triple ((c .make-triple) .ensures) ((c .before .before .before .before .before .before .before .before .pre) .2 .s) (omega arith) ((c .before .before .before .before .before .before .before .before .pre) .1 .o))
 
--- src/lib.rt:137:1
 returns-3 : tie.Need-returns-3
-returns-3 c = ?
+returns-3 c = answers-iff (λ i. record { typed = (c .before .before .before .before .if1) .left; class = (c .before .before .before .before .before .before .before .before .before .pre) .3; other = i; nonzero = (c .before .before .if2) .left }) (λ w. w .other) (answers-found ((c .before .make-triple) .ensures) ((c .contains) .ensures))
 
 pub cax-dw-spec : {M : Type 1} → statement M
 cax-dw-spec =

@@ -1,19 +1,18 @@
+-- `checks::cls_nothing2` meets its contract. Assumes nothing.
+use Rattle.checks.proofs.Answering.{answers-no, answers-nonzero}
 use Rattle.checks.proofs.cls_nothing2.Statement.{statement}
 use Rattle.checks.proofs.cls_nothing2.Tie as tie
 use Rattle.checks.proofs.cls_nothing2.Reads as reads
 use Rattle.checks.proofs.cls_nothing2.Lts as lts
 
--- src/lib.rt:204:9
 returns : tie.Need-returns
-returns c = ?
+returns c = answers-no (λ w. (c .if1) .taken (w .typed))
 
--- src/lib.rt:207:9
 returns-2 : tie.Need-returns-2
-returns-2 c = ?
+returns-2 c = answers-no (λ w. (c .if2) .taken (w .class))
 
--- src/lib.rt:199:1
 returns-3 : tie.Need-returns-3
-returns-3 c = ?
+returns-3 c = answers-nonzero ((c .before .before .before .before .before .before .before .args) .t .s .0) (λ z. record { instance = (c .before .before .before .before .before .before .before .pre); typed = (c .before .before .before .before .if1) .left; class = (c .before .if2) .left; nonzero = z }) (λ w. w .nonzero)
 
 pub cls-nothing2-spec : {M : Type 1} → statement M
 cls-nothing2-spec = tie.close (tie.spec returns returns-2 returns-3)

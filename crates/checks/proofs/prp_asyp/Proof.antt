@@ -1,3 +1,5 @@
+-- `checks::prp_asyp` meets its contract. Assumes nothing.
+use Rattle.checks.proofs.Answering.{answers-no, answers-iff, answers-found, small-triple}
 use borrow.Author.Needs.{needs}
 use Rattle.checks.proofs.prp_asyp.Statement.{statement}
 use Rattle.checks.proofs.prp_asyp.Tie as tie
@@ -6,29 +8,23 @@ use Rattle.checks.proofs.prp_asyp.Lts as lts
 use Rattle.checks.proofs.make_triple.Reads as make-triple-reads
 use Rattle.rows.proofs.contains.Reads as contains-reads
 
--- src/lib.rt:167:9
 returns : tie.Need-returns
-returns c = ?
+returns c = answers-no (λ w. w .nonzero-p ((c .if1) .taken))
 
--- src/lib.rt:170:9
 returns-2 : tie.Need-returns-2
-returns-2 c = ?
+returns-2 c = answers-no (λ w. w .nonzero-a ((c .if2) .taken))
 
--- src/lib.rt:173:9
 returns-3 : tie.Need-returns-3
-returns-3 c = ?
+returns-3 c = answers-no (λ w. w .nonzero-b ((c .if3) .taken))
 
--- src/lib.rt:175:30
 make-triple-requires : tie.Need-make-triple-requires
 make-triple-requires c κs = search needs
 
--- src/lib.rt:175:5
 contains-requires : tie.Need-contains-requires
-contains-requires c κs = ?
+contains-requires c κs = ((c .before .before .before .before .before .before .before .before .before .pre) .0, small-triple ((c .make-triple) .ensures) ((c .before .before .before .before .before .before .before .before .before .pre) .2 .o) ((c .before .before .before .before .before .before .before .before .before .pre) .1 .s) ((c .before .before .before .before .before .before .before .before .before .pre) .2 .s))
 
--- src/lib.rt:162:1
 returns-4 : tie.Need-returns-4
-returns-4 c = ?
+returns-4 c = answers-iff (λ i. record { property = (c .before .before .before .before .before .before .before .before .before .before .pre) .3; back = i; nonzero-p = (c .before .before .before .before .before .before .if1) .left; nonzero-a = (c .before .before .before .before .if2) .left; nonzero-b = (c .before .before .if3) .left }) (λ w. w .back) (answers-found ((c .before .make-triple) .ensures) ((c .contains) .ensures))
 
 pub prp-asyp-spec : {M : Type 1} → statement M
 prp-asyp-spec =

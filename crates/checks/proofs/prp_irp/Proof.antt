@@ -1,15 +1,15 @@
+-- `checks::prp_irp` meets its contract. Assumes nothing.
+use Rattle.checks.proofs.Answering.{answers-no, answers-nonzero}
 use Rattle.checks.proofs.prp_irp.Statement.{statement}
 use Rattle.checks.proofs.prp_irp.Tie as tie
 use Rattle.checks.proofs.prp_irp.Reads as reads
 use Rattle.checks.proofs.prp_irp.Lts as lts
 
--- src/lib.rt:156:9
 returns : tie.Need-returns
-returns c = ?
+returns c = answers-no (λ w. (c .if1) .taken (w .same))
 
--- src/lib.rt:151:1
 returns-2 : tie.Need-returns-2
-returns-2 c = ?
+returns-2 c = answers-nonzero ((c .before .before .before .args) .u .s .0) (λ z. record { property = (c .before .before .before .pre); same = (c .before .if1) .left; nonzero = z }) (λ w. w .nonzero)
 
 pub prp-irp-spec : {M : Type 1} → statement M
 prp-irp-spec = tie.close (tie.spec returns returns-2)

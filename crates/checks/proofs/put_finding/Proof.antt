@@ -1,74 +1,60 @@
+-- `checks::put_finding` meets its contract. Assumes nothing.
+use native.Mathlib.Omega.{arith}
+use lib.ListN.{length-set}
 use borrow.Author.Needs.{needs}
 use Rattle.checks.proofs.put_finding.Statement.{statement}
 use Rattle.checks.proofs.put_finding.Tie as tie
 use Rattle.checks.proofs.put_finding.Reads as reads
 use Rattle.checks.proofs.put_finding.Lts as lts
 
--- src/lib.rt:232:14
 mul-at : tie.Need-mul-at
 mul-at c = search needs
 
--- src/lib.rt:233:5
 mul-findings : tie.Need-mul-findings
 mul-findings c = search needs
 
--- src/lib.rt:233:5
 slice-write-findings : tie.Need-slice-write-findings
 slice-write-findings c = search needs
 
--- src/lib.rt:234:14
 add-findings : tie.Need-add-findings
 add-findings c = search needs
 
--- src/lib.rt:234:5
 mul-findings-2 : tie.Need-mul-findings-2
 mul-findings-2 c = search needs
 
--- src/lib.rt:234:5
 slice-write-findings-2 : tie.Need-slice-write-findings-2
-slice-write-findings-2 c = ?
+slice-write-findings-2 c = simp length-set (omega arith)
 
--- src/lib.rt:235:14
 add-findings-2 : tie.Need-add-findings-2
 add-findings-2 c = search needs
 
--- src/lib.rt:235:5
 mul-findings-3 : tie.Need-mul-findings-3
 mul-findings-3 c = search needs
 
--- src/lib.rt:235:5
 slice-write-findings-3 : tie.Need-slice-write-findings-3
-slice-write-findings-3 c = ?
+slice-write-findings-3 c = simp length-set (omega arith)
 
--- src/lib.rt:236:14
 add-findings-3 : tie.Need-add-findings-3
 add-findings-3 c = search needs
 
--- src/lib.rt:236:5
 mul-findings-4 : tie.Need-mul-findings-4
 mul-findings-4 c = search needs
 
--- src/lib.rt:236:5
 slice-write-findings-4 : tie.Need-slice-write-findings-4
-slice-write-findings-4 c = ?
+slice-write-findings-4 c = simp length-set (omega arith)
 
--- src/lib.rt:237:14
 add-findings-4 : tie.Need-add-findings-4
 add-findings-4 c = search needs
 
--- src/lib.rt:237:5
 mul-findings-5 : tie.Need-mul-findings-5
 mul-findings-5 c = search needs
 
--- src/lib.rt:237:5
 slice-write-findings-5 : tie.Need-slice-write-findings-5
-slice-write-findings-5 c = ?
+slice-write-findings-5 c = simp length-set (omega arith)
 
--- src/lib.rt:228:1
 same-length : tie.Need-same-length
 same-length c = search needs
 
--- src/lib.rt:228:1
 returns : tie.Need-returns
 returns c = search needs
 

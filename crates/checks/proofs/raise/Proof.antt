@@ -1,3 +1,8 @@
+-- `checks::raise` meets its contract. Assumes nothing.
+use mathlib.Core.Path.{sym, ap, subst}
+use Prim.Native.Nat.{ℕ, _+_, _<_}
+use native.Mathlib.Omega.{arith}
+use lib.ListN.{getD, set}
 use borrow.Author.Needs.{needs}
 use Rattle.checks.proofs.raise.Statement.{statement}
 use Rattle.checks.proofs.raise.Tie as tie
@@ -5,37 +10,29 @@ use Rattle.checks.proofs.raise.Reads as reads
 use Rattle.checks.proofs.raise.Lts as lts
 use Rattle.checks.proofs.wide.Reads as wide-reads
 
--- src/lib.rt:246:19
 sub-wide : tie.Need-sub-wide
 sub-wide c = search needs
 
--- src/lib.rt:246:9
 wide-requires : tie.Need-wide-requires
 wide-requires c κs = search needs
 
--- src/lib.rt:247:16
 mul-next : tie.Need-mul-next
 mul-next c = search needs
 
--- src/lib.rt:247:16
 array-read-next : tie.Need-array-read-next
 array-read-next c = search needs
 
--- src/lib.rt:247:16
 add-next : tie.Need-add-next
-add-next c = ?
+add-next c = omega (arith, subst (λ (i : ℕ). getD ((c .before .args) .counts) i 0 < 65536) (sym ((c .wide) .ensures)) ((c .before .pre) .2))
 
--- src/lib.rt:247:5
 mul-next-2 : tie.Need-mul-next-2
 mul-next-2 c = search needs
 
--- src/lib.rt:247:5
 array-write-next : tie.Need-array-write-next
 array-write-next c = search needs
 
--- src/lib.rt:241:1
 returns : tie.Need-returns
-returns c = ?
+returns c = ap (λ (i : ℕ). set ((c .before .args) .counts) i (getD ((c .before .args) .counts) i 0 + 1)) ((c .wide) .ensures)
 
 pub raise-spec : {M : Type 1} → statement M
 raise-spec =
