@@ -1,7 +1,7 @@
 -- Laws of records appended to the findings buffer. Assumes nothing.
-use mathlib.Core.Path.{_≡_, refl, sym, ap, ap₂, subst, _∙_}
-use mathlib.Core.Logic.{_⊎_, inl, inr, ⊎-elim}
-use mathlib.Core.Bool.{Bool, true, false}
+use mathlib.Core.Path.{_≡_, refl, sym, ap, ap₂, _∙_}
+use mathlib.Core.Logic.{_⊎_, ⊎-elim}
+use mathlib.Core.Bool.{true, false}
 use mathlib.Core.List.{List, [], _∷_, _++_, append-assoc, append-nil}
 use Prim.Native.Nat.{ℕ, _+_, _-_, _*_, _≤_, _<_}
 use native.Mathlib.Omega.{arith}
@@ -14,7 +14,7 @@ use Rattle.rows.specs.Rows.{findingAt, finding-rows}
 use Rattle.rows.proofs.Cases.{true-false}
 use Rattle.rows.proofs.Listed.{listed-more, listed-ext, length-listed}
 use Rattle.checks.specs.declared.Checked.{Checked}
-use Rattle.checks.specs.Findings.{set-finding, raised, Ready, Missing, Appended}
+use Rattle.checks.specs.Findings.{set-finding, raised, Ready, Appended}
 use Rattle.checks.proofs.Counting.{count-le, count-at, five-snoc}
 
 -- findings are the same where their numbers are

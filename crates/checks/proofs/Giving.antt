@@ -3,11 +3,10 @@ use mathlib.Core.Path.{_≡_, refl, sym, ap, subst, _∙_}
 use mathlib.Core.Logic.{_⊎_, inl, inr, _≢_}
 use mathlib.Core.Bool.{true, false}
 use mathlib.Core.List.{List}
-use Prim.Native.Nat.{ℕ, _+_, _-_, _≤_, _<_}
+use Prim.Native.Nat.{ℕ, _+_, _≤_, _<_}
 use native.Mathlib.Omega.{arith}
 use lib.ListN.{getD}
 use Rattle.common.specs.Triples.{Triple, Finding}
-use Rattle.common.specs.Rules.{Graph}
 use Rattle.rows.specs.Rows.{rowAt, Apart}
 use Rattle.rows.specs.Chains.{keys, Last, Chain}
 use Rattle.rows.specs.Store.{Good}

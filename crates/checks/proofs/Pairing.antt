@@ -1,9 +1,9 @@
 -- The pairs of rows and the findings in words: a finding comes from one pair, and the pairs of a store give exactly its findings.
 -- Assumes nothing.
 use mathlib.Core.Path.{_≡_, refl, sym, ap, subst, _∙_}
-use mathlib.Core.Bool.{Bool, true, false}
+use mathlib.Core.Bool.{true}
 use mathlib.Core.List.{List}
-use Prim.Native.Nat.{ℕ, _+_, _*_, _≤_, _<_}
+use Prim.Native.Nat.{ℕ, _*_, _≤_, _<_}
 use native.Mathlib.Omega.{arith}
 use lib.Dec.{eqb}
 use Rattle.common.specs.Triples.{Triple, triple, Finding, finding, In, if}
@@ -17,7 +17,7 @@ use Rattle.rows.proofs.Cases.{true-false}
 use Rattle.rows.proofs.Rows.{triple-eq, in-rows→, in-rows←}
 use Rattle.checks.specs.declared.CheckKind.{CheckKind}
 use Rattle.checks.specs.declared.CheckKind.the-variants.{NoCheck, CaxDw, PrpIrp, PrpAsyp, PrpPdw, ClsNothing2}
-use Rattle.checks.specs.Pairs.{row-graph, Axiom, check-of, KindOf, is-check, TypedByBoth, Reflexive, BothWays, RelatedByBoth, OfNothing, Violates, finding-by, block-by, key-by, Gives, GivesWith, GivenByRow, GivenByRows}
+use Rattle.checks.specs.Pairs.{row-graph, Axiom, check-of, is-check, Violates, finding-by, block-by, key-by, Gives, GivesWith, GivenByRow, GivenByRows}
 
 -- an axiom is one of its check alone
 pub axiom-kind : (k : CheckKind) (t : Triple) → Axiom k t → check-of t ≡ k

@@ -1,12 +1,11 @@
 -- A loop that appends what each row of a chain gives, from the last row to the first: one law for the loop over the assertions, along
 -- a chain of the index, and for the loop over the axioms, which visits every row. Assumes nothing.
-use mathlib.Core.Path.{_≡_, refl, sym, subst, _∙_}
+use mathlib.Core.Path.{_≡_, sym, subst, _∙_}
 use mathlib.Core.Logic.{_⊎_, inl, inr, ⊎-elim}
 use mathlib.Core.Bool.{true, false}
 use mathlib.Core.List.{List}
-use Prim.Native.Nat.{ℕ, _+_, _-_, _≤_, _<_}
+use Prim.Native.Nat.{ℕ, _-_, _≤_, _<_}
 use native.Mathlib.Omega.{arith}
-use lib.ListN.{length}
 use Rattle.common.specs.Triples.{Finding}
 use Rattle.rows.specs.Chains.{Last}
 use Rattle.rows.proofs.Cases.{is-or-not, le-or, true-false}
@@ -65,9 +64,9 @@ module _ {key : ℕ → ℕ} {x m : ℕ} {D : ℕ → Finding → Type 0} where
     either {v} h y i = ⊎-elim
         (λ q. inr (subst (λ (k : ℕ). D k y) q (i .gives)))
         (λ q. ⊎-elim
-            (λ c. inl (record { at = i .at; from = c; below = i .below; keyed = i .keyed; gives = i .gives }))
-            (λ c. absurd (last h .none (i .at) (i .from) (omega arith) (i .keyed)))
-            (le-or cur (i .at)))
+        (λ c. inl (record { at = i .at; from = c; below = i .below; keyed = i .keyed; gives = i .gives }))
+        (λ c. absurd (last h .none (i .at) (i .from) (omega arith) (i .keyed)))
+        (le-or cur (i .at)))
         (is-or-not (i .at) (cur - 1))
 
     -- a row for which nothing is given; v is the next row of the key

@@ -1,13 +1,13 @@
 -- The findings of the store from what the loops appended: sorted and cleared they are the definition's list, or they do not fit.
 -- Assumes nothing.
-use mathlib.Core.Path.{_≡_, refl, sym, ap, ap₂, subst, _∙_}
-use mathlib.Core.Logic.{_⊎_, inl, inr, ⊎-elim}
+use mathlib.Core.Path.{_≡_, sym, ap, ap₂, subst, _∙_}
+use mathlib.Core.Logic.{⊎-elim}
 use mathlib.Core.Bool.{true, false}
 use mathlib.Core.List.{List, [], _∷_, _++_}
-use Prim.Native.Nat.{ℕ, suc, _+_, _-_, _*_, _/_, _≤_, _<_}
+use Prim.Native.Nat.{ℕ, suc, _-_, _*_, _/_, _≤_, _<_}
 use native.Mathlib.Omega.{arith}
 use lib.ListN.{length, replicate}
-use Rattle.common.specs.Triples.{Finding, In, here, there, key-finding, Ascending, Distinct, insert-all}
+use Rattle.common.specs.Triples.{Finding, In, key-finding, Ascending, Distinct, insert-all}
 use Rattle.common.specs.Closure.{findings, count-of, five-counts}
 use Rattle.common.specs.Rows.{flat-findings, filled}
 use Rattle.common.proofs.Lists.{in-nil, in-cons}
@@ -16,12 +16,11 @@ use Rattle.common.proofs.Checks.{findings-ascending, findings→, findings←}
 use Rattle.rows.specs.Rows.{rows, findingAt, finding-rows}
 use Rattle.rows.specs.Sorted.{Sorted}
 use Rattle.rows.specs.Answer.{cleared}
-use Rattle.rows.proofs.Cases.{true-false}
 use Rattle.rows.proofs.Listed.{listed-none, length-listed}
 use Rattle.rows.proofs.Filled.{findings-left}
 use Rattle.checks.specs.declared.Checked.{Checked}
 use Rattle.checks.specs.Pairs.{GivenByRows}
-use Rattle.checks.specs.Findings.{Ready, Appended, nothing-yet, Buffer, Fits, Checks}
+use Rattle.checks.specs.Findings.{Ready, Appended, nothing-yet, Checks}
 use Rattle.checks.proofs.Pairing.{found→given, given→found}
 use Rattle.checks.proofs.Counting.{five-sorted}
 
@@ -72,7 +71,7 @@ module _ {l : List ℕ} {n : ℕ} {f f₁ : List ℕ} {r : Checked} (p : Appende
       let xs : List Finding = o .what ∷ p .new in
       let a : length (sorted xs) ≡ suc (length (p .new)) = length-sorted xs (o .absent, p .distinct) in
       let b : length (sorted xs) ≤ length (findings (rows n l)) = sub-length key-finding (sorted xs) (findings (rows n l)) (ascending-sorted xs) (findings-ascending (rows n l))
-          (λ z i. in-findings (⊎-elim (λ q. subst (GivenByRows l n) (sym q) (o .wanted)) (p .sound z) (in-cons (in-sorted→ xs i)))) in
+      (λ z i. in-findings (⊎-elim (λ q. subst (GivenByRows l n) (sym q) (o .wanted)) (p .sound z) (in-cons (in-sorted→ xs i)))) in
       omega (arith, new-length, o .short, p .same-length)
 
   pub whole-over : r .full ≡ true → Checks l n f r f₁

@@ -2,16 +2,15 @@
 -- records", "findings full: more findings than records", "five counts, one for each check", and "findings the same": strictly
 -- ascending, then zeros. Assumes nothing.
 use mathlib.Core.Path.{_≡_}
-use mathlib.Core.Logic.{_≢_}
-use mathlib.Core.Bool.{Bool, true, false}
+use mathlib.Core.Bool.{true, false}
 use mathlib.Core.List.{List, [], _∷_, _++_}
 use Prim.Native.Nat.{ℕ, _+_, _-_, _*_, _/_, _%_, _≤_, _<_}
 use lib.ListN.{length, getD, set}
-use Rattle.common.specs.Triples.{Triple, Finding, In, Distinct}
+use Rattle.common.specs.Triples.{Finding, In, Distinct}
 use Rattle.common.specs.Closure.{findings, five-counts}
 use Rattle.common.specs.Rows.{flat-findings, filled}
 use Rattle.rows.specs.Rows.{rows, finding-rows}
-use Rattle.rows.specs.Store.{Good, Small, Indexed}
+use Rattle.rows.specs.Store.{Good, Indexed}
 use Rattle.checks.specs.declared.Checked.{Checked}
 
 -- the buffer with x as its record j

@@ -12,12 +12,12 @@ use rows::row;
 use rows::sort_rows;
 ghost use mathlib.Core.Path.{_≡_};
 ghost use mathlib.Core.Bool.{true, false};
-ghost use Prim.Native.Nat.{ℕ, _+_, _-_, _*_, _≤_, _<_};
+ghost use Prim.Native.Nat.{_+_, _-_, _*_, _≤_, _<_};
 ghost use lib.ListN.{length, getD};
 ghost use Rattle.common.specs.Triples.{triple, finding};
 ghost use Rattle.common.specs.Values.{triple-of};
 ghost use Rattle.rows.specs.Store.{Good, Small, Indexed};
-ghost use Rattle.checks.specs.Pairs.{row-graph, finding-of, Axiom, KindOf, is-check, TypedByBoth, Reflexive, BothWays, RelatedByBoth, OfNothing, Violates, finding-by, block-by, key-by, GivesWith, GivenByRows, Answers};
+ghost use Rattle.checks.specs.Pairs.{row-graph, finding-of, KindOf, is-check, TypedByBoth, Reflexive, BothWays, RelatedByBoth, OfNothing, Violates, finding-by, block-by, key-by, GivesWith, GivenByRows, Answers};
 ghost use Rattle.checks.specs.Findings.{set-finding, raised, Readable, nothing-yet, Ready, Appended, Buffer, Checks};
 
 // How many numbers a record has.

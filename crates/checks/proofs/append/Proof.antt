@@ -6,10 +6,6 @@ use Rattle.checks.proofs.Appending.{count-few, appended-one, appended-f
 use borrow.Author.Needs.{needs}
 use Rattle.checks.proofs.append.Statement.{statement}
 use Rattle.checks.proofs.append.Tie as tie
-use Rattle.checks.proofs.append.Reads as reads
-use Rattle.checks.proofs.append.Lts as lts
-use Rattle.checks.proofs.put_finding.Reads as put-finding-reads
-use Rattle.checks.proofs.raise.Reads as raise-reads
 
 mul-if1 : tie.Need-mul-if1
 mul-if1 c = search needs

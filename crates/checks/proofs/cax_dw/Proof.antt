@@ -4,10 +4,6 @@ use Rattle.checks.proofs.Answering.{answers-no, answers-iff, answers-fo
 use borrow.Author.Needs.{needs}
 use Rattle.checks.proofs.cax_dw.Statement.{statement}
 use Rattle.checks.proofs.cax_dw.Tie as tie
-use Rattle.checks.proofs.cax_dw.Reads as reads
-use Rattle.checks.proofs.cax_dw.Lts as lts
-use Rattle.checks.proofs.make_triple.Reads as make-triple-reads
-use Rattle.rows.proofs.contains.Reads as contains-reads
 
 returns : tie.Need-returns
 returns c = answers-no (λ w. (c .if1) .taken (w .typed))

@@ -3,11 +3,6 @@ use Rattle.checks.proofs.Whole.{whole-over, whole-fits}
 use borrow.Author.Needs.{needs}
 use Rattle.checks.proofs.check.Statement.{statement}
 use Rattle.checks.proofs.check.Tie as tie
-use Rattle.checks.proofs.check.Reads as reads
-use Rattle.checks.proofs.check.Lts as lts
-use Rattle.checks.proofs.check_rows.Reads as check-rows-reads
-use Rattle.rows.proofs.clear_from.Reads as clear-from-reads
-use Rattle.rows.proofs.sort_rows.Reads as sort-rows-reads
 
 check-rows-requires : tie.Need-check-rows-requires
 check-rows-requires c κs = search needs

@@ -7,8 +7,6 @@ use Rattle.checks.specs.Pairs.{check-of}
 use Rattle.checks.proofs.Pairing.{axiom-kind}
 use Rattle.checks.proofs.check_of.Statement.{statement}
 use Rattle.checks.proofs.check_of.Tie as tie
-use Rattle.checks.proofs.check_of.Reads as reads
-use Rattle.checks.proofs.check_of.Lts as lts
 
 returns : tie.Need-returns
 returns c = record { is = sym (axiom-kind CaxDw (triple-of ((c .before .before .before .args) .t)) ((c .if1) .taken)); stated = λ _. ((c .if1) .taken) }

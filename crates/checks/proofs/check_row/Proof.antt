@@ -1,11 +1,10 @@
 -- `checks::check_row` meets its contract. Assumes nothing.
-use Prim.Native.Nat.{ℕ, _-_}
+use Prim.Native.Nat.{_-_}
 use mathlib.Core.Path.{_≡_, refl, sym, ap, subst, _∙_}
 use lib.ListN.{length}
 use native.Mathlib.Omega.{arith}
 use borrow.Author.Needs.{needs}
 use borrow.Author.Tests.{not-true, not-false}
-use Rattle.common.specs.Triples.{Triple}
 use Rattle.common.specs.Values.{triple-of}
 use Rattle.rows.specs.Rows.{rowAt}
 use Rattle.rows.specs.Store.{Small}
@@ -15,19 +14,9 @@ use Rattle.checks.proofs.Scanning.{Scanning, scanning-start, scanning-b
 use Rattle.checks.proofs.Giving.{chain-head, chain-link, once-assertion, appended-gives, gives-none, appended-with, check-number}
 use Rattle.checks.proofs.check_row.Statement.{statement}
 use Rattle.checks.proofs.check_row.Tie as tie
-use Rattle.checks.proofs.check_row.Reads as reads
-use Rattle.checks.proofs.check_row.Lts as lts
-use Rattle.checks.proofs.append.Reads as append-reads
-use Rattle.checks.proofs.block_by.Reads as block-by-reads
-use Rattle.checks.proofs.finding_by.Reads as finding-by-reads
-use Rattle.checks.proofs.violates.Reads as violates-reads
-use Rattle.checks.proofs.wide.Reads as wide-reads
-use Rattle.rows.proofs.head.Reads as head-reads
-use Rattle.rows.proofs.link.Reads as link-reads
-use Rattle.rows.proofs.row.Reads as row-reads
 
 abbrev Inv-loop : tie.InvT-loop
-Inv-loop store hash ix n findings₀ k t block key done₀ cur₀ findings done cur = 
+Inv-loop store hash ix n findings₀ k t block key done₀ cur₀ findings done cur =
     Scanning (λ j. key-by k (rowAt store j)) key n (λ j. Gives k (row-graph store n) (triple-of t) (rowAt store j)) findings₀ done₀ findings done cur
     × (length findings ≡ length findings₀)
 

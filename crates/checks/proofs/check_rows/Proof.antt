@@ -1,5 +1,5 @@
 -- `checks::check_rows` meets its contract. Assumes nothing.
-use Prim.Native.Nat.{ℕ, _-_}
+use Prim.Native.Nat.{_-_}
 use mathlib.Core.Path.{_≡_, refl, sym, subst, _∙_}
 use lib.ListN.{length}
 use native.Mathlib.Omega.{arith}
@@ -14,15 +14,9 @@ use Rattle.checks.proofs.Whole.{ready-start}
 use borrow.Author.Needs.{needs}
 use Rattle.checks.proofs.check_rows.Statement.{statement}
 use Rattle.checks.proofs.check_rows.Tie as tie
-use Rattle.checks.proofs.check_rows.Reads as reads
-use Rattle.checks.proofs.check_rows.Lts as lts
-use Rattle.checks.proofs.check_of.Reads as check-of-reads
-use Rattle.checks.proofs.check_row.Reads as check-row-reads
-use Rattle.checks.proofs.is_check.Reads as is-check-reads
-use Rattle.rows.proofs.row.Reads as row-reads
 
 abbrev Inv-loop : tie.InvT-loop
-Inv-loop store hash ix n findings₀ done₀ i₀ findings done i = 
+Inv-loop store hash ix n findings₀ done₀ i₀ findings done i =
     Scanning (λ _. 0) 0 n (GivenByRow store n) findings₀ nothing-yet findings done i
     × (length findings ≡ length findings₀)
 

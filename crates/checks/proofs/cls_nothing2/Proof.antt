@@ -2,8 +2,6 @@
 use Rattle.checks.proofs.Answering.{answers-no, answers-nonzero}
 use Rattle.checks.proofs.cls_nothing2.Statement.{statement}
 use Rattle.checks.proofs.cls_nothing2.Tie as tie
-use Rattle.checks.proofs.cls_nothing2.Reads as reads
-use Rattle.checks.proofs.cls_nothing2.Lts as lts
 
 returns : tie.Need-returns
 returns c = answers-no (λ w. (c .if1) .taken (w .typed))

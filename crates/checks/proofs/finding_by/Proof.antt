@@ -6,9 +6,6 @@ use Rattle.checks.specs.Pairs.{finding-by}
 use borrow.Author.Needs.{needs}
 use Rattle.checks.proofs.finding_by.Statement.{statement}
 use Rattle.checks.proofs.finding_by.Tie as tie
-use Rattle.checks.proofs.finding_by.Reads as reads
-use Rattle.checks.proofs.finding_by.Lts as lts
-use Rattle.checks.proofs.make_finding.Reads as make-finding-reads
 
 enum-told : tie.Need-enum-told
 enum-told c = search needs

@@ -3,10 +3,6 @@ use Rattle.checks.proofs.Answering.{answers-no, answers-iff, answers-fo
 use borrow.Author.Needs.{needs}
 use Rattle.checks.proofs.prp_asyp.Statement.{statement}
 use Rattle.checks.proofs.prp_asyp.Tie as tie
-use Rattle.checks.proofs.prp_asyp.Reads as reads
-use Rattle.checks.proofs.prp_asyp.Lts as lts
-use Rattle.checks.proofs.make_triple.Reads as make-triple-reads
-use Rattle.rows.proofs.contains.Reads as contains-reads
 
 returns : tie.Need-returns
 returns c = answers-no (λ w. w .nonzero-p ((c .if1) .taken))

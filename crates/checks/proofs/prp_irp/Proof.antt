@@ -2,8 +2,6 @@
 use Rattle.checks.proofs.Answering.{answers-no, answers-nonzero}
 use Rattle.checks.proofs.prp_irp.Statement.{statement}
 use Rattle.checks.proofs.prp_irp.Tie as tie
-use Rattle.checks.proofs.prp_irp.Reads as reads
-use Rattle.checks.proofs.prp_irp.Lts as lts
 
 returns : tie.Need-returns
 returns c = answers-no (λ w. (c .if1) .taken (w .same))

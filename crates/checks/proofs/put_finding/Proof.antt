@@ -4,8 +4,6 @@ use lib.ListN.{length-set}
 use borrow.Author.Needs.{needs}
 use Rattle.checks.proofs.put_finding.Statement.{statement}
 use Rattle.checks.proofs.put_finding.Tie as tie
-use Rattle.checks.proofs.put_finding.Reads as reads
-use Rattle.checks.proofs.put_finding.Lts as lts
 
 mul-at : tie.Need-mul-at
 mul-at c = search needs

@@ -6,9 +6,6 @@ use lib.ListN.{getD, set}
 use borrow.Author.Needs.{needs}
 use Rattle.checks.proofs.raise.Statement.{statement}
 use Rattle.checks.proofs.raise.Tie as tie
-use Rattle.checks.proofs.raise.Reads as reads
-use Rattle.checks.proofs.raise.Lts as lts
-use Rattle.checks.proofs.wide.Reads as wide-reads
 
 sub-wide : tie.Need-sub-wide
 sub-wide c = search needs

@@ -5,13 +5,6 @@ use Rattle.checks.proofs.Answering.{answers-no, answers-kind, key-kind}
 use borrow.Author.Needs.{needs}
 use Rattle.checks.proofs.violates.Statement.{statement}
 use Rattle.checks.proofs.violates.Tie as tie
-use Rattle.checks.proofs.violates.Reads as reads
-use Rattle.checks.proofs.violates.Lts as lts
-use Rattle.checks.proofs.cax_dw.Reads as cax-dw-reads
-use Rattle.checks.proofs.cls_nothing2.Reads as cls-nothing2-reads
-use Rattle.checks.proofs.prp_asyp.Reads as prp-asyp-reads
-use Rattle.checks.proofs.prp_irp.Reads as prp-irp-reads
-use Rattle.checks.proofs.prp_pdw.Reads as prp-pdw-reads
 
 enum-told : tie.Need-enum-told
 enum-told c = search needs
