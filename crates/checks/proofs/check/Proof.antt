@@ -1,0 +1,42 @@
+-- `checks::check` meets its contract. Assumes nothing.
+use Rattle.checks.proofs.Whole.{whole-over, whole-fits}
+use borrow.Author.Needs.{needs}
+use Rattle.checks.proofs.check.Statement.{statement}
+use Rattle.checks.proofs.check.Tie as tie
+
+check-rows-requires : tie.Need-check-rows-requires
+check-rows-requires c κs = search needs
+
+same-length : tie.Need-same-length
+same-length c = search needs
+
+returns : tie.Need-returns
+returns c = whole-over ((c .before .before .before .check-rows) .ensures) ((c .if1) .taken)
+
+sort-rows-requires : tie.Need-sort-rows-requires
+sort-rows-requires c κs = search needs
+
+mul-clear-from : tie.Need-mul-clear-from
+mul-clear-from c = search needs
+
+clear-from-requires : tie.Need-clear-from-requires
+clear-from-requires c κs = search needs
+
+same-length-2 : tie.Need-same-length-2
+same-length-2 c = search needs
+
+returns-2 : tie.Need-returns-2
+returns-2 c = whole-fits ((c .before .before .before .before .before .before .before .before .before .before .before .check-rows) .ensures) ((c .before .before .before .before .before .before .before .before .if1) .left) ((c .before .before .before .before .before .before .sort-rows) .ensures) ((c .before .before .clear-from) .ensures) (search needs)
+
+pub check-spec : {M : Type 1} → statement M
+check-spec =
+    tie.close
+    (tie.spec
+    check-rows-requires
+    same-length
+    returns
+    sort-rows-requires
+    mul-clear-from
+    clear-from-requires
+    same-length-2
+    returns-2)

@@ -1,0 +1,16 @@
+-- `checks::cls_nothing2` meets its contract. Assumes nothing.
+use Rattle.checks.proofs.Answering.{answers-no, answers-nonzero}
+use Rattle.checks.proofs.cls_nothing2.Statement.{statement}
+use Rattle.checks.proofs.cls_nothing2.Tie as tie
+
+returns : tie.Need-returns
+returns c = answers-no (λ w. (c .if1) .taken (w .typed))
+
+returns-2 : tie.Need-returns-2
+returns-2 c = answers-no (λ w. (c .if2) .taken (w .class))
+
+returns-3 : tie.Need-returns-3
+returns-3 c = answers-nonzero ((c .before .before .before .before .before .before .before .args) .t .s .0) (λ z. record { instance = (c .before .before .before .before .before .before .before .pre); typed = (c .before .before .before .before .if1) .left; class = (c .before .if2) .left; nonzero = z }) (λ w. w .nonzero)
+
+pub cls-nothing2-spec : {M : Type 1} → statement M
+cls-nothing2-spec = tie.close (tie.spec returns returns-2 returns-3)

@@ -1,0 +1,38 @@
+-- `checks::prp_pdw` meets its contract. Assumes nothing.
+use Rattle.checks.proofs.Answering.{answers-no, answers-iff, answers-found, small-triple}
+use borrow.Author.Needs.{needs}
+use Rattle.checks.proofs.prp_pdw.Statement.{statement}
+use Rattle.checks.proofs.prp_pdw.Tie as tie
+
+returns : tie.Need-returns
+returns c = answers-no (λ w. w .nonzero-a ((c .if1) .taken))
+
+returns-2 : tie.Need-returns-2
+returns-2 c = answers-no (λ w. w .nonzero-b ((c .if2) .taken))
+
+returns-3 : tie.Need-returns-3
+returns-3 c = answers-no (λ w. w .nonzero-p ((c .if3) .taken))
+
+returns-4 : tie.Need-returns-4
+returns-4 c = answers-no (λ w. w .nonzero-q ((c .if4) .taken))
+
+make-triple-requires : tie.Need-make-triple-requires
+make-triple-requires c κs = search needs
+
+contains-requires : tie.Need-contains-requires
+contains-requires c κs = ((c .before .before .before .before .before .before .before .before .before .before .before .pre) .0, small-triple ((c .make-triple) .ensures) ((c .before .before .before .before .before .before .before .before .before .before .before .pre) .2 .s) ((c .before .before .before .before .before .before .before .before .before .before .before .pre) .1 .o) ((c .before .before .before .before .before .before .before .before .before .before .before .pre) .2 .o))
+
+returns-5 : tie.Need-returns-5
+returns-5 c = answers-iff (λ i. record { property = (c .before .before .before .before .before .before .before .before .before .before .before .before .pre) .3; other = i; nonzero-a = (c .before .before .before .before .before .before .before .before .if1) .left; nonzero-b = (c .before .before .before .before .before .before .if2) .left; nonzero-p = (c .before .before .before .before .if3) .left; nonzero-q = (c .before .before .if4) .left }) (λ w. w .other) (answers-found ((c .before .make-triple) .ensures) ((c .contains) .ensures))
+
+pub prp-pdw-spec : {M : Type 1} → statement M
+prp-pdw-spec =
+    tie.close
+    (tie.spec
+    returns
+    returns-2
+    returns-3
+    returns-4
+    make-triple-requires
+    contains-requires
+    returns-5)
