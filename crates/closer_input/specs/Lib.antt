@@ -1,0 +1,4 @@
+pub mod Decimal
+pub mod Input
+pub mod Output
+pub mod Contracts
