@@ -1,1 +1,3 @@
 pub mod Numerals
+pub mod Writing
+pub mod Reading

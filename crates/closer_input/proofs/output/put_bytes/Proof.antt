@@ -1,53 +1,46 @@
+-- `output::put_bytes` meets its contract. Assumes nothing.
+use Prim.Native.Nat.{_-_}
+use lib.ListN.{length}
+use borrow.Author.Needs.{needs}
+use Rattle.closer_input.proofs.Writing.{Copied, copied-start, copied-room, copied-step, copied-end, wrote-length}
 use Rattle.closer_input.proofs.output.put_bytes.Statement.{statement}
 use Rattle.closer_input.proofs.output.put_bytes.Tie as tie
-use Rattle.closer_input.proofs.output.put_bytes.Reads as reads
-use Rattle.closer_input.proofs.output.put_bytes.Lts as lts
 
 abbrev Inv-loop : tie.InvT-loop
-Inv-loop bytes out₀ at i₀ out i = ?
+Inv-loop bytes out₀ at i₀ out i = Copied bytes out₀ at out i
 
 abbrev μ-loop : tie.MeasureT-loop
-μ-loop bytes out₀ at i₀ out i = ?
+μ-loop bytes out₀ at i₀ out i = length bytes - i
 
--- src/output.rt:17:5
 loop-holds : tie.Need-loop-holds Inv-loop μ-loop
-loop-holds c = ?
+loop-holds c = copied-start (c .args .bytes .now) (c .args .out .now) (c .args .at) (c .pre)
 
--- src/output.rt:18:23
 shared-slice-read-out : tie.Need-shared-slice-read-out Inv-loop μ-loop
-shared-slice-read-out c = ?
+shared-slice-read-out c = search needs
 
--- src/output.rt:18:13
 add-out : tie.Need-add-out Inv-loop μ-loop
-add-out c = ?
+add-out c = search needs
 
--- src/output.rt:18:9
 slice-write-out : tie.Need-slice-write-out Inv-loop μ-loop
-slice-write-out c = ?
+slice-write-out c = copied-room (c .before .before .before .pre) (c .before .before .loop .inv) (c .before .loop-test .taken)
 
--- src/output.rt:19:9
 add-i : tie.Need-add-i Inv-loop μ-loop
-add-i c = ?
+add-i c = search needs
 
--- src/output.rt:17:5
 loop-less : tie.Need-loop-less Inv-loop μ-loop
-loop-less c = ?
+loop-less c = search needs
 
--- src/output.rt:17:5
 loop-again : tie.Need-loop-again Inv-loop μ-loop
-loop-again c = ?
+loop-again c = copied-step (c .before .before .before .pre) (c .before .before .loop .inv) (c .before .loop-test .taken)
 
--- src/output.rt:21:5
 add-result : tie.Need-add-result Inv-loop μ-loop
-add-result c = ?
+add-result c = search needs
 
--- src/output.rt:12:1
 same-length : tie.Need-same-length Inv-loop μ-loop
-same-length c = ?
+same-length c = wrote-length (c .before .loop .inv .wrote)
 
--- src/output.rt:12:1
 returns : tie.Need-returns Inv-loop μ-loop
-returns c = ?
+returns c = copied-end (c .before .before .pre) (c .before .loop .inv) (c .loop-test .left)
 
 pub put-bytes-spec : {M : Type 1} → statement M
 put-bytes-spec =
