@@ -1,5 +1,5 @@
 -- Lines and fields by the places where they end; an id line; and the loop over the lines. Assumes nothing.
-use mathlib.Core.Path.{_≡_, refl, sym, ap, _∙_}
+use mathlib.Core.Path.{_≡_, refl, sym, ap, subst, _∙_}
 use mathlib.Core.Logic.{_⊎_, inl, inr}
 use mathlib.Core.Bool.{Bool, true, false}
 use mathlib.Core.Option.{Option, some, none}
@@ -8,13 +8,18 @@ use Prim.Native.Nat.{ℕ, zero, suc, _+_, _-_, _*_, _≤_, _<_}
 use native.Mathlib.Nat.{add-zero, zero-add}
 use native.Mathlib.Numerals.{add-one}
 use native.Mathlib.Omega.{arith}
-use lib.Dec.{leb, eqb}
+use lib.Dec.{leb, ltb, eqb}
 use lib.ListN.{length, getD, take, drop, set, length-append, length-set, length-take, length-drop, drop-of-length-le}
-use lib.Seq.{sets, sets-eq, length-sets, length-take-le, drop-cons, drop-drop, drop-length, take-at}
-use borrow.Author.Tests.{eqb-true, eqb-false, eq-eqb, ne-eqb, le-leb, lt-leb}
+use lib.Seq.{sets, sets-eq, length-sets, length-take-le, drop-cons, drop-drop, drop-length, take-at, take-all}
+use borrow.Author.Tests.{ltb-true, ltb-false, eqb-true, eqb-false, eq-eqb, ne-eqb, le-leb, lt-leb}
 use Rattle.common.specs.Triples.{if}
 use Rattle.closer_input.specs.Decimal.{number}
 use Rattle.closer_input.specs.Input.{before, onto, parts, lines, fields, on, id, three-ids, id-line, count-line, Reading, reading, id-lines, read-lines, read, Parsed, bad-line, input, parsed, parse}
+use Rattle.closer_input.specs.Contracts.{number-of, part, TwoSpaces, SpacesOf}
+use Rattle.closer_input.specs.declared.decimal.Field.{Field}
+use Rattle.closer_input.specs.declared.decimal.Field.the-variants.{Number, Bad as No-number}
+use Rattle.closer_input.specs.declared.input.Spaces.{Spaces}
+use Rattle.closer_input.specs.declared.input.Spaces.the-variants.{Two, Other}
 use Rattle.closer_input.proofs.Numerals.{either}
 use Rattle.closer_input.proofs.Writing.{sets-append}
 
@@ -77,15 +82,15 @@ parts-more e rest (b ∷ bs) h = go (λ i. parts-more e rest bs i) (either (eqb 
     go ih (inl t) = rw t refl
     go ih (inr t) = let i : length (before e bs) < length bs = omega (arith, rw t at h) in rw (t, ih i) refl
 
--- and the only field where none does
-pub fields-last : (bs : List ℕ) → length (before 32 bs) ≡ length bs → fields bs ≡ before 32 bs ∷ []
+-- and the only part where none does
+pub parts-last : (e : ℕ) (bs : List ℕ) → length (before e bs) ≡ length bs → parts e ([] ∷ []) bs ≡ before e bs ∷ []
 unfolding before parts
-fields-last [] h = refl
-fields-last (b ∷ bs) h = go (λ i. fields-last bs i) (either (eqb b 32))
+parts-last e [] h = refl
+parts-last e (b ∷ bs) h = go (λ i. parts-last e bs i) (either (eqb b e))
   where
-    go : (length (before 32 bs) ≡ length bs → fields bs ≡ before 32 bs ∷ []) → (eqb b 32 ≡ true) ⊎ (eqb b 32 ≡ false) → fields (b ∷ bs) ≡ before 32 (b ∷ bs) ∷ []
+    go : (length (before e bs) ≡ length bs → parts e ([] ∷ []) bs ≡ before e bs ∷ []) → (eqb b e ≡ true) ⊎ (eqb b e ≡ false) → parts e ([] ∷ []) (b ∷ bs) ≡ before e (b ∷ bs) ∷ []
     go ih (inl t) = absurd (omega (arith, rw t at h))
-    go ih (inr t) = let i : length (before 32 bs) ≡ length bs = omega (arith, rw t at h) in rw (t, ih i) refl
+    go ih (inr t) = let i : length (before e bs) ≡ length bs = omega (arith, rw t at h) in rw (t, ih i) refl
 
 -- a line and the lines after it
 pub lines-next : (bs : List ℕ) → 0 < length bs → lines bs ≡ before 10 bs ∷ lines (drop (suc (length (before 10 bs))) bs)
@@ -97,3 +102,101 @@ lines-next (b ∷ bs) h = go bs (λ i. lines-next bs i) (either (eqb b 10))
     go cs ih (inl t) = rw t refl
     go [] ih (inr t) = rw t refl
     go (c ∷ cs) ih (inr t) = rw (t, ih (omega arith)) refl
+
+-- A PLACE that `find` answers: the part that ends there, and what follows
+module _ (e : ℕ) (bs : List ℕ) (at end : ℕ) (up : at ≤ length bs) (is : end ≡ at + length (before e (drop at bs))) where
+  pub found-within : end ≤ length bs
+  found-within = let s = before-short e (drop at bs) in let l = length-drop at bs in omega arith
+
+  pub found-part : take (end - at) (drop at bs) ≡ before e (drop at bs)
+  found-part = let n : end - at ≡ length (before e (drop at bs)) = omega arith in ap (λ k. take k (drop at bs)) n ∙ before-take e (drop at bs)
+
+  -- what follows the byte
+  found-rest : drop (suc (length (before e (drop at bs)))) (drop at bs) ≡ drop (end + 1) bs
+  found-rest = let n : at + suc (length (before e (drop at bs))) ≡ end + 1 = omega arith in drop-drop (suc (length (before e (drop at bs)))) at bs ∙ ap (λ k. drop k bs) n
+
+  pub found-more : (rest : List (List ℕ)) → end < length bs → parts e rest (drop at bs) ≡ take (end - at) (drop at bs) ∷ parts e rest (drop (end + 1) bs)
+  found-more rest h =
+      let l = length-drop at bs in
+      parts-more e rest (drop at bs) (omega arith) ∙ rw (found-part, found-rest) refl
+
+  pub found-last : end ≡ length bs → parts e ([] ∷ []) (drop at bs) ≡ take (end - at) (drop at bs) ∷ []
+  found-last h = let l = length-drop at bs in parts-last e (drop at bs) (omega arith) ∙ rw found-part refl
+
+-- a line has a field, empty or not
+fields-some : (bs : List ℕ) → (d : List ℕ) × (ds : List (List ℕ)) × (fields bs ≡ d ∷ ds)
+fields-some bs = go (either (ltb (length (before 32 bs)) (length bs)))
+  where
+    go : (ltb (length (before 32 bs)) (length bs) ≡ true) ⊎ (ltb (length (before 32 bs)) (length bs) ≡ false) → (d : List ℕ) × (ds : List (List ℕ)) × (fields bs ≡ d ∷ ds)
+    go (inl t) = (before 32 bs, fields (drop (suc (length (before 32 bs))) bs), parts-more 32 ([] ∷ []) bs (ltb-true (length (before 32 bs)) (length bs) t))
+    go (inr t) = let g = ltb-false (length (before 32 bs)) (length bs) t in let s = before-short 32 bs in (before 32 bs, [], parts-last 32 bs (omega arith))
+
+-- THE SPACES of a line, found one after the other
+module _ (line : List ℕ) (a : ℕ) (is-a : a ≡ 0 + length (before 32 (drop 0 line))) where
+  pub no-space : a ≡ length line → id-line line ≡ none
+  unfolding id-line
+  no-space h = ap three-ids (found-last 32 line 0 a (omega arith) is-a h)
+
+  pub space-in : (a ≡ length line → ⊥) → a < length line
+  space-in n = let w = found-within 32 line 0 a (omega arith) is-a in omega arith
+
+  first-field : a < length line → fields line ≡ take a line ∷ fields (drop (a + 1) line)
+  first-field h = let z : a - 0 ≡ a = omega arith in found-more 32 line 0 a (omega arith) is-a ([] ∷ []) h ∙ rw z refl
+
+  module _ (h : a < length line) (b : ℕ) (is-b : b ≡ a + 1 + length (before 32 (drop (a + 1) line))) where
+    pub one-space : b ≡ length line → id-line line ≡ none
+    unfolding id-line
+    one-space e = ap three-ids (first-field h ∙ ap (λ fs. take a line ∷ fs) (found-last 32 line (a + 1) b (omega arith) is-b e))
+
+    pub second-in : (b ≡ length line → ⊥) → b < length line
+    second-in n = let w = found-within 32 line (a + 1) b (omega arith) is-b in omega arith
+
+    two-fields : b < length line → fields line ≡ take a line ∷ take (b - (a + 1)) (drop (a + 1) line) ∷ fields (drop (b + 1) line)
+    two-fields i = first-field h ∙ ap (λ fs. take a line ∷ fs) (found-more 32 line (a + 1) b (omega arith) is-b ([] ∷ []) i)
+
+    module _ (i : b < length line) (d : ℕ) (is-d : d ≡ b + 1 + length (before 32 (drop (b + 1) line))) where
+      pub three-spaces : d < length line → id-line line ≡ none
+      unfolding id-line
+      three-spaces l =
+          let more = found-more 32 line (b + 1) d (omega arith) is-d ([] ∷ []) l in
+          let s = fields-some (drop (d + 1) line) in
+          let all : fields line ≡ take a line ∷ part line (a + 1) b ∷ part line (b + 1) d ∷ s .0 ∷ s .1 = two-fields i ∙ rw (more, s .2) refl in
+          ap three-ids all
+
+      pub two-spaces : length line ≤ d → TwoSpaces line a b
+      two-spaces l =
+          let w = found-within 32 line (b + 1) d (omega arith) is-d in
+          let q : d ≡ length line = omega arith in
+          let last = found-last 32 line (b + 1) d (omega arith) is-d q in
+          record { order = omega arith; within = i; are = two-fields i ∙ rw (last, q) refl }
+
+-- what an answer that was matched says
+pub told-two : {line : List ℕ} {r : Spaces} {a b : ℕ} → r ≡ Two a b → SpacesOf line r → TwoSpaces line a b
+told-two {line} e s = subst (λ x. SpacesOf line x) e s
+
+pub told-other : (line : List ℕ) {r : Spaces} → r ≡ Other → SpacesOf line r → id-line line ≡ none
+told-other line e s = subst (λ x. SpacesOf line x) e s
+
+pub told-number : {r : Field} {n : ℕ} {o : Option ℕ} → r ≡ Number n → number-of r ≡ o → o ≡ some n
+told-number e s = sym s ∙ ap number-of e
+
+pub told-none : {r : Field} {o : Option ℕ} → r ≡ No-number → number-of r ≡ o → o ≡ none
+told-none e s = sym s ∙ ap number-of e
+
+-- THE IDS of a line with two spaces: none where a field is no number, and else the three
+module _ {line : List ℕ} {a b : ℕ} (t : TwoSpaces line a b) where
+  id-line-is : id-line line ≡ three-ids (take a line ∷ part line (a + 1) b ∷ part line (b + 1) (length line) ∷ [])
+  unfolding id-line
+  id-line-is = ap three-ids (t .are)
+
+  pub first-bad : id (take a line) ≡ none → id-line line ≡ none
+  first-bad e = id-line-is ∙ rw e refl
+
+  pub second-bad : {s : ℕ} → id (take a line) ≡ some s → id (part line (a + 1) b) ≡ none → id-line line ≡ none
+  second-bad e f = id-line-is ∙ rw (e, f) refl
+
+  pub third-bad : {s p : ℕ} → id (take a line) ≡ some s → id (part line (a + 1) b) ≡ some p → id (part line (b + 1) (length line)) ≡ none → id-line line ≡ none
+  third-bad e f g = id-line-is ∙ rw (e, f, g) refl
+
+  pub all-good : {s p o : ℕ} → id (take a line) ≡ some s → id (part line (a + 1) b) ≡ some p → id (part line (b + 1) (length line)) ≡ some o → id-line line ≡ some (s ∷ p ∷ o ∷ [])
+  all-good e f g = id-line-is ∙ rw (e, f, g) refl

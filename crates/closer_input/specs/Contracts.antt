@@ -2,12 +2,14 @@
 use mathlib.Core.Path.{_≡_}
 use mathlib.Core.Option.{Option, some, none}
 use mathlib.Core.List.{List, [], _∷_}
-use Prim.Native.Nat.{ℕ, _+_, _*_, _≤_}
-use lib.ListN.{length, take}
+use Prim.Native.Nat.{ℕ, _+_, _-_, _*_, _≤_, _<_}
+use lib.ListN.{length, take, drop}
 use lib.Seq.{sets}
-use Rattle.closer_input.specs.Input.{Parsed, bad-line, input, read, parse}
+use Rattle.closer_input.specs.Input.{fields, id-line, Parsed, bad-line, input, read, parse}
 use Rattle.closer_input.specs.declared.decimal.Field.{Field}
 use Rattle.closer_input.specs.declared.decimal.Field.the-variants.{Number, Bad as No-number}
+use Rattle.closer_input.specs.declared.input.Spaces.{Spaces}
+use Rattle.closer_input.specs.declared.input.Spaces.the-variants.{Two, Other}
 use Rattle.closer_input.specs.declared.input.Line.{Line}
 use Rattle.closer_input.specs.declared.input.Line.the-variants.{Ids, Bad as No-ids}
 use Rattle.closer_input.specs.declared.input.Parsed.{Parsed as Answer}
@@ -16,6 +18,20 @@ use Rattle.closer_input.specs.declared.input.Parsed.the-variants.{Bad, I
 abbrev pub number-of : Field → Option ℕ
 number-of (Number n) = some n
 number-of No-number = none
+
+-- the bytes from place `at` up to place `end`
+abbrev pub part : List ℕ → ℕ → ℕ → List ℕ
+part bs at end = take (end - at) (drop at bs)
+
+-- a line of three fields, with its spaces at a and b
+pub record TwoSpaces (line : List ℕ) (a b : ℕ) : Type 0 where
+  pub order : a < b
+  pub within : b < length line
+  pub are : fields line ≡ take a line ∷ part line (a + 1) b ∷ part line (b + 1) (length line) ∷ []
+
+abbrev pub SpacesOf : List ℕ → Spaces → Type 0
+SpacesOf line (Two a b) = TwoSpaces line a b
+SpacesOf line Other = id-line line ≡ none
 
 abbrev pub ids-of : Line → Option (List ℕ)
 ids-of (Ids s p o) = some (s ∷ p ∷ o ∷ [])

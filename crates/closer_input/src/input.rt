@@ -5,7 +5,7 @@ ghost use mathlib.Core.Path.{_≡_};
 ghost use Prim.Native.Nat.{_+_, _≤_};
 ghost use lib.ListN.{length, drop};
 ghost use Rattle.closer_input.specs.Input.{before, id-line};
-ghost use Rattle.closer_input.specs.Contracts.{ids-of, ParseOf};
+ghost use Rattle.closer_input.specs.Contracts.{SpacesOf, ids-of, ParseOf};
 
 // The largest id.
 const LARGEST: u32 = 4294967295;
@@ -34,36 +34,50 @@ pub fn find(bytes: &[u8], at: usize, byte: u8) -> usize
     i
 }
 
+// Where the spaces of a line are, if there are two.
+pub enum Spaces {
+    Two(usize, usize),
+    Other,
+}
+
+pub fn two_spaces(line: &[u8]) -> Spaces
+    ensures { λ r. ⌜ SpacesOf (now (line .entry)) r ⌝ }
+{
+    let a = find(line, 0, 32);
+    if a == line.len() {
+        return Spaces::Other;
+    }
+    let b = find(line, a + 1, 32);
+    if b == line.len() {
+        return Spaces::Other;
+    }
+    if find(line, b + 1, 32) < line.len() {
+        return Spaces::Other;
+    }
+    Spaces::Two(a, b)
+}
+
+// The three ids of a line.
 pub enum Line {
     Ids(u32, u32, u32),
     Bad,
 }
 
-// The three ids of a line.
 pub fn ids_of_line(line: &[u8]) -> Line
     ensures { λ r. ⌜ ids-of r ≡ id-line (now (line .entry)) ⌝ }
 {
-    let end1 = find(line, 0, 32);
-    if end1 == line.len() {
-        return Line::Bad;
-    }
-    let start2 = end1 + 1;
-    let end2 = find(line, start2, 32);
-    if end2 == line.len() {
-        return Line::Bad;
-    }
-    let start3 = end2 + 1;
-    let end3 = find(line, start3, 32);
-    if end3 != line.len() {
-        return Line::Bad;
-    }
-    let Field::Number(s) = number(&line[..end1], LARGEST) else {
+    let Spaces::Two(a, b) = two_spaces(line) else {
         return Line::Bad;
     };
-    let Field::Number(p) = number(&line[start2..end2], LARGEST) else {
+    let Field::Number(s) = number(&line[..a], LARGEST) else {
         return Line::Bad;
     };
-    let Field::Number(o) = number(&line[start3..], LARGEST) else {
+    let second = a + 1;
+    let Field::Number(p) = number(&line[second..b], LARGEST) else {
+        return Line::Bad;
+    };
+    let third = b + 1;
+    let Field::Number(o) = number(&line[third..], LARGEST) else {
         return Line::Bad;
     };
     Line::Ids(s, p, o)
