@@ -6,21 +6,24 @@ use mathlib.Core.Option.{Option, some, none}
 use mathlib.Core.List.{List, [], _∷_, _++_, append-assoc, append-nil}
 use Prim.Native.Nat.{ℕ, zero, suc, _+_, _-_, _*_, _≤_, _<_}
 use native.Mathlib.Nat.{add-zero, zero-add}
-use native.Mathlib.Numerals.{add-one}
+use native.Mathlib.Numerals.{add-one, add-two}
 use native.Mathlib.Omega.{arith}
 use lib.Dec.{leb, ltb, eqb}
 use lib.ListN.{length, getD, take, drop, set, length-append, length-set, length-take, length-drop, drop-of-length-le}
-use lib.Seq.{sets, sets-eq, length-sets, length-take-le, drop-cons, drop-drop, drop-length, take-at, take-all}
+use lib.Seq.{sets, sets-eq, length-sets, length-take-le, drop-cons, drop-drop, drop-length, take-at, take-all, take-nil}
 use borrow.Author.Tests.{ltb-true, ltb-false, eqb-true, eqb-false, eq-eqb, ne-eqb, le-leb, lt-leb}
 use Rattle.common.specs.Triples.{if}
 use Rattle.closer_input.specs.Decimal.{number}
 use Rattle.closer_input.specs.Input.{before, onto, parts, lines, fields, on, id, three-ids, id-line, count-line, Reading, reading, id-lines, read-lines, read, Parsed, bad-line, input, parsed, parse}
-use Rattle.closer_input.specs.Contracts.{number-of, part, TwoSpaces, SpacesOf}
+use Rattle.closer_input.specs.Contracts.{number-of, part, TwoSpaces, SpacesOf, ids-of, ParseOf}
 use Rattle.closer_input.specs.declared.decimal.Field.{Field}
 use Rattle.closer_input.specs.declared.decimal.Field.the-variants.{Number, Bad as No-number}
 use Rattle.closer_input.specs.declared.input.Spaces.{Spaces}
 use Rattle.closer_input.specs.declared.input.Spaces.the-variants.{Two, Other}
-use Rattle.closer_input.proofs.Numerals.{either}
+use Rattle.closer_input.specs.declared.input.Line.{Line}
+use Rattle.closer_input.specs.declared.input.Line.the-variants.{Ids, Bad as No-ids}
+use Rattle.closer_input.specs.declared.input.Parsed.the-variants.{Bad, Input}
+use Rattle.closer_input.proofs.Numerals.{either, number-empty}
 use Rattle.closer_input.proofs.Writing.{sets-append}
 
 -- THE FIRST e of a text
@@ -123,6 +126,13 @@ module _ (e : ℕ) (bs : List ℕ) (at end : ℕ) (up : at ≤ length bs) (is : 
   pub found-last : end ≡ length bs → parts e ([] ∷ []) (drop at bs) ≡ take (end - at) (drop at bs) ∷ []
   found-last h = let l = length-drop at bs in parts-last e (drop at bs) (omega arith) ∙ rw found-part refl
 
+-- a line and the lines after it, by places
+pub found-line : (bs : List ℕ) (at end : ℕ) → at < length bs → end ≡ at + length (before 10 (drop at bs)) → lines (drop at bs) ≡ part bs at end ∷ lines (drop (end + 1) bs)
+found-line bs at end h is =
+    let up : at ≤ length bs = omega arith in
+    let l = length-drop at bs in
+    lines-next (drop at bs) (omega arith) ∙ rw (found-part 10 bs at end up is, found-rest 10 bs at end up is) refl
+
 -- a line has a field, empty or not
 fields-some : (bs : List ℕ) → (d : List ℕ) × (ds : List (List ℕ)) × (fields bs ≡ d ∷ ds)
 fields-some bs = go (either (ltb (length (before 32 bs)) (length bs)))
@@ -200,3 +210,112 @@ module _ {line : List ℕ} {a b : ℕ} (t : TwoSpaces line a b) where
 
   pub all-good : {s p o : ℕ} → id (take a line) ≡ some s → id (part line (a + 1) b) ≡ some p → id (part line (b + 1) (length line)) ≡ some o → id-line line ≡ some (s ∷ p ∷ o ∷ [])
   all-good e f g = id-line-is ∙ rw (e, f, g) refl
+
+pub told-ids : {r : Line} {s p o : ℕ} {is : Option (List ℕ)} → r ≡ Ids s p o → ids-of r ≡ is → is ≡ some (s ∷ p ∷ o ∷ [])
+told-ids e s = sym s ∙ ap ids-of e
+
+pub told-no-ids : {r : Line} {is : Option (List ℕ)} → r ≡ No-ids → ids-of r ≡ is → is ≡ none
+told-no-ids e s = sym s ∙ ap ids-of e
+
+-- THE WHOLE INPUT. What was read decides the answer.
+parse-bad : {text old : List ℕ} (n : ℕ) (is : List ℕ) (j : ℕ) {new : List ℕ} → read text ≡ reading n is (some j) → new ≡ sets old 0 is → ParseOf text old (Bad j) new
+unfolding parse
+parse-bad {text} {old} n is j {new} e k = record { answer = rw e refl; ids = k ∙ ap (λ r. sets old 0 (r .ids)) (sym e); few = omega arith }
+
+parse-good : {text old : List ℕ} (n k : ℕ) {new : List ℕ} → read text ≡ reading n (take (3 * k) new) none → new ≡ sets old 0 (take (3 * k) new) → k ≤ 1000 → ParseOf text old (Input n k) new
+unfolding parse
+parse-good {text} {old} n k {new} e kept few = record { answer = rw e refl; ids = kept ∙ ap (λ r. sets old 0 (r .ids)) (sym e); few = few }
+
+-- the count's line, at the front
+first-line : (text : List ℕ) (first : ℕ) → 0 < length text → first ≡ 0 + length (before 10 (drop 0 text)) → lines text ≡ take first text ∷ lines (drop (first + 1) text)
+first-line text first h is = let z : first - 0 ≡ first = omega arith in found-line text 0 first h is ∙ rw z refl
+
+-- the count's line is bad; so it is where the text is empty
+pub count-bad : (text old : List ℕ) (first : ℕ) → first ≡ 0 + length (before 10 (drop 0 text)) → count-line (take first text) ≡ none → ParseOf text old (Bad 1) old
+unfolding read parts
+count-bad text old first is e = parse-bad 0 [] 1 (go text first is e) refl
+  where
+    go : (bs : List ℕ) (first : ℕ) → first ≡ 0 + length (before 10 (drop 0 bs)) → count-line (take first bs) ≡ none → read bs ≡ reading 0 [] (some 1)
+    go [] first is e = refl
+    go (b ∷ bs) first is e = ap read-lines (first-line (b ∷ bs) first (omega arith) is) ∙ rw e refl
+
+-- what was stored, with what stands before it
+take-sets : (l : List ℕ) (i : ℕ) (vs : List ℕ) → i + length vs ≤ length l → take (i + length vs) (sets l i vs) ≡ take i l ++ vs
+take-sets l i vs h =
+    let a = length-append (take i l) vs in
+    let b = length-take-le i l (omega arith) in
+    ap (λ x. take (i + length vs) x) (sets-eq vs l i h) ∙ take-at (take i l ++ vs) (drop (i + length vs) l) (i + length vs) (omega arith)
+
+-- THE LOOP over the id lines: the ids of k lines stand at the front, the rest is as it was, and what is left gives the same as the whole
+pub record LinesRead (text old : List ℕ) (n : ℕ) (new : List ℕ) (end k : ℕ) : Type 0 where
+  pub few : k ≤ 1000
+  pub upto : end ≤ length text
+  pub room : 3000 ≤ length new
+  pub kept : new ≡ sets old 0 (take (3 * k) new)
+  pub left : read text ≡ id-lines n (k + 2) (take (3 * k) new) (lines (drop (end + 1) text))
+
+pub lines-start : (text old : List ℕ) (first n : ℕ) → 3000 ≤ length old → first ≡ 0 + length (before 10 (drop 0 text)) → count-line (take first text) ≡ some n → LinesRead text old n old first 0
+unfolding read
+lines-start text old first n room is e = record {
+  few = omega arith;
+  upto = found-within 10 text 0 first (omega arith) is;
+  room = room;
+  kept = refl;
+  left = go text first is e;
+}
+  where
+    go : (bs : List ℕ) (first : ℕ) → first ≡ 0 + length (before 10 (drop 0 bs)) → count-line (take first bs) ≡ some n → read bs ≡ id-lines n 2 [] (lines (drop (first + 1) bs))
+    go [] first is e =
+        let q : some n ≡ none = sym e ∙ ap count-line (take-nil first) ∙ number-empty 500 [] refl in
+        let z : _≡_ {A = ℕ} 0 1 = cc in
+        absurd (omega arith)
+    go (b ∷ bs) first is e = ap read-lines (first-line (b ∷ bs) first (omega arith) is) ∙ rw e refl
+
+module _ {text old : List ℕ} {n : ℕ} {new : List ℕ} {end k : ℕ} (c : LinesRead text old n new end k) where
+  pub lines-length : length new ≡ length old
+  lines-length = ap length (c .kept) ∙ length-sets old 0 (take (3 * k) new)
+
+  -- no line is left
+  pub lines-end : length text ≤ end + 1 → ParseOf text old (Input n k) new
+  unfolding id-lines parts
+  lines-end h = parse-good n k (c .left ∙ rw (drop-of-length-le text h) refl) (c .kept) (c .few)
+
+  module _ (h : end + 1 < length text) (next : ℕ) (is : next ≡ end + 1 + length (before 10 (drop (end + 1) text))) where
+    one-more : read text ≡ id-lines n (k + 2) (take (3 * k) new) (part text (end + 1) next ∷ lines (drop (next + 1) text))
+    one-more = c .left ∙ rw (found-line text (end + 1) next h is) refl
+
+    one-too-many : k ≡ 1000 → ParseOf text old (Bad 1002) new
+    unfolding id-lines
+    one-too-many e = parse-bad n (take (3 * k) new) 1002 (one-more ∙ rw e refl) (c .kept)
+
+    -- a line of another shape
+    pub line-bad : (k ≡ 1000 → ⊥) → id-line (part text (end + 1) next) ≡ none → ParseOf text old (Bad (k + 2)) new
+    unfolding id-lines
+    line-bad f e = let w = c .few in parse-bad n (take (3 * k) new) (k + 2) (one-more ∙ rw (le-leb (k + 2) 1001 (omega arith), e) refl) (c .kept)
+
+    -- a line of three ids
+    pub line-good : (k ≡ 1000 → ⊥) → (s p o : ℕ) → id-line (part text (end + 1) next) ≡ some (s ∷ p ∷ o ∷ []) → LinesRead text old n (set (set (set new (3 * k) s) (3 * k + 1) p) (3 * k + 2) o) next (k + 1)
+    unfolding id-lines
+    line-good f s p o e = rw three-stores (record {
+      few = let w = c .few in omega arith;
+      upto = found-within 10 text (end + 1) next (omega arith) is;
+      room = rw (length-sets new (3 * k) (s ∷ p ∷ o ∷ [])) (c .room);
+      kept = rw front (sym (sets-append old 0 (take (3 * k) new) (s ∷ p ∷ o ∷ []) ∙ rw (← c .kept, at-front) refl));
+      left = rw front (one-more ∙ rw (le-leb (k + 2) 1001 (let w = c .few in omega arith), e) (rw number-next refl));
+    })
+      where
+        three-stores : set (set (set new (3 * k) s) (3 * k + 1) p) (3 * k + 2) o ≡ sets new (3 * k) (s ∷ p ∷ o ∷ [])
+        three-stores = rw (add-one, add-two) refl
+
+        at-front : 0 + length (take (3 * k) new) ≡ 3 * k
+        at-front = let w = c .few in let r = c .room in let l = length-take-le (3 * k) new (omega arith) in omega arith
+
+        front : take (3 * (k + 1)) (sets new (3 * k) (s ∷ p ∷ o ∷ [])) ≡ take (3 * k) new ++ (s ∷ p ∷ o ∷ [])
+        front = let w = c .few in let r = c .room in let n3 : 3 * (k + 1) ≡ 3 * k + 3 = omega arith in rw n3 (take-sets new (3 * k) (s ∷ p ∷ o ∷ []) (omega arith))
+
+        number-next : suc (k + 2) ≡ k + 1 + 2
+        number-next = omega arith
+
+  -- a line too many, whatever it holds
+  pub line-too-many : end + 1 < length text → k ≡ 1000 → ParseOf text old (Bad 1002) new
+  line-too-many h e = one-too-many h (end + 1 + length (before 10 (drop (end + 1) text))) refl e

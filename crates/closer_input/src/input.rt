@@ -109,9 +109,10 @@ pub fn parse(input: &[u8], ids: &mut [u32]) -> Parsed
         let Line::Ids(s, p, o) = ids_of_line(&input[start..end]) else {
             return Parsed::Bad(lines as u32 + 2);
         };
-        ids[3 * lines] = s;
-        ids[3 * lines + 1] = p;
-        ids[3 * lines + 2] = o;
+        let at = 3 * lines;
+        ids[at] = s;
+        ids[at + 1] = p;
+        ids[at + 2] = o;
         lines += 1;
     }
     Parsed::Input { count, lines }

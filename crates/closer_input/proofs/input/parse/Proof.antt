@@ -1,168 +1,155 @@
+-- `input::parse` meets its contract. Assumes nothing.
+use Prim.Native.Nat.{_+_, _-_}
+use mathlib.Core.Path.{sym}
+use native.Mathlib.Omega.{arith}
+use lib.ListN.{length, length-set}
+use lib.Seq.{length-take-le}
+use borrow.Author.Needs.{needs}
+use Rattle.closer_input.proofs.Reading.{found-within, told-number, told-none, told-ids, told-no-ids, count-bad, LinesRead, lines-start, lines-length, lines-end, line-bad, line-good, line-too-many}
 use Rattle.closer_input.proofs.input.parse.Statement.{statement}
 use Rattle.closer_input.proofs.input.parse.Tie as tie
-use Rattle.closer_input.proofs.input.parse.Reads as reads
-use Rattle.closer_input.proofs.input.parse.Lts as lts
-use Rattle.closer_input.proofs.decimal.number.Reads as number-reads
-use Rattle.closer_input.proofs.input.find.Reads as find-reads
-use Rattle.closer_input.proofs.input.ids_of_line.Reads as ids-of-line-reads
 
 abbrev Inv-loop : tie.InvT-loop
-Inv-loop input ids₀ first count end₀ lines₀ ids end lines = ?
+Inv-loop input ids₀ first count end₀ lines₀ ids end lines =
+    LinesRead input ids₀ count ids end lines
 
 abbrev μ-loop : tie.MeasureT-loop
-μ-loop input ids₀ first count end₀ lines₀ ids end lines = ?
+μ-loop input ids₀ first count end₀ lines₀ ids end lines = length input - end
 
--- src/input.rt:97:9
 find-requires : tie.Need-find-requires Inv-loop μ-loop
-find-requires c κs = ?
+find-requires c κs = search needs
 
--- src/input.rt:98:39
 slice-aggregate-number : tie.Need-slice-aggregate-number Inv-loop μ-loop
-slice-aggregate-number c = ?
+slice-aggregate-number c =
+    let z = c .before .before .before .before in
+    let f = c .before .find in
+    sym (length-take-le (f .result) (z .args .input .now) (found-within 10 (z .args .input .now) 0 (f .result) (omega arith) (f .ensures)))
 
--- src/input.rt:98:32
 number-requires : tie.Need-number-requires Inv-loop μ-loop
-number-requires c κs = ?
+number-requires c κs = search needs
 
--- src/input.rt:98:23
 enum-known-count : tie.Need-enum-known-count Inv-loop μ-loop
-enum-known-count c = ?
+enum-known-count c = search needs
 
--- src/input.rt:99:9
 enum-told : tie.Need-enum-told Inv-loop μ-loop
-enum-told c = ?
+enum-told c = search needs
 
--- src/input.rt:99:9
 returns : tie.Need-returns Inv-loop μ-loop
-returns c = ?
+returns c =
+    let z = c .before .before .before .before .before .before .before in
+    let f = c .before .before .before .before .find in
+    count-bad (z .args .input .now) (z .args .ids .now) (f .result) (f .ensures) (told-none (c .enum-told .given .1) (c .before .before .number .ensures))
 
--- src/input.rt:103:5
 loop-holds : tie.Need-loop-holds Inv-loop μ-loop
-loop-holds c = ?
+loop-holds c =
+    let z = c .before .before .before .before .before .before .before .before in
+    let f = c .before .before .before .before .before .find in
+    lines-start (z .args .input .now) (z .args .ids .now) (f .result) (c .before .count .given .0 .0) (z .pre) (f .ensures) (told-number (c .before .count .given .1) (c .before .before .before .number .ensures))
 
--- src/input.rt:103:11
 add-loop : tie.Need-add-loop Inv-loop μ-loop
-add-loop c = ?
+add-loop c = let i = c .loop .inv in let g = c .before .before .before .before .before .before .before .before .before .good in omega arith
 
--- src/input.rt:105:13
 same-length : tie.Need-same-length Inv-loop μ-loop
-same-length c = ?
+same-length c = lines-length (c .before .before .loop .inv)
 
--- src/input.rt:105:13
 returns-2 : tie.Need-returns-2 Inv-loop μ-loop
-returns-2 c = ?
+returns-2 c = line-too-many (c .before .before .loop .inv) (c .before .loop-test .taken) (c .if1 .taken)
 
--- src/input.rt:107:21
 add-start : tie.Need-add-start Inv-loop μ-loop
-add-start c = ?
+add-start c = let h = c .before .loop-test .taken in let g = c .before .before .before .before .before .before .before .before .before .before .before .good in omega arith
 
--- src/input.rt:108:9
 find-requires-2 : tie.Need-find-requires-2 Inv-loop μ-loop
-find-requires-2 c κs = ?
+find-requires-2 c κs = let h = c .before .loop-test .taken in omega arith
 
--- src/input.rt:109:46
 sub-ids-of-line : tie.Need-sub-ids-of-line Inv-loop μ-loop
-sub-ids-of-line c = ?
+sub-ids-of-line c =
+    let w = c .before .before .before in
+    let h = c .before .before .loop-test .taken in
+    let s = c .find2 .ensures in
+    let e = found-within 10 (w .before .before .before .before .before .before .before .before .before .args .input .now) (w .loop .end + 1) (c .find2 .result) (omega arith) (c .find2 .ensures) in
+    omega arith
 
--- src/input.rt:109:46
 part-ids-of-line-start : tie.Need-part-ids-of-line-start Inv-loop μ-loop
-part-ids-of-line-start c = ?
+part-ids-of-line-start c = let s = c .find2 .ensures in omega arith
 
--- src/input.rt:109:46
 part-ids-of-line-end : tie.Need-part-ids-of-line-end Inv-loop μ-loop
-part-ids-of-line-end c = ?
+part-ids-of-line-end c =
+    let w = c .before .before .before in
+    let h = c .before .before .loop-test .taken in
+    let e = found-within 10 (w .before .before .before .before .before .before .before .before .before .args .input .now) (w .loop .end + 1) (c .find2 .result) (omega arith) (c .find2 .ensures) in
+    omega arith
 
--- src/input.rt:109:34
 ids-of-line-requires : tie.Need-ids-of-line-requires Inv-loop μ-loop
-ids-of-line-requires c κs = ?
+ids-of-line-requires c κs = search needs
 
--- src/input.rt:109:23
 enum-known-s : tie.Need-enum-known-s Inv-loop μ-loop
-enum-known-s c = ?
+enum-known-s c = search needs
 
--- src/input.rt:110:32
 enum-told-2 : tie.Need-enum-told-2 Inv-loop μ-loop
-enum-told-2 c = ?
+enum-told-2 c = search needs
 
--- src/input.rt:110:32
-cast-t21 : tie.Need-cast-t21 Inv-loop μ-loop
-cast-t21 c = ?
+cast-t22 : tie.Need-cast-t22 Inv-loop μ-loop
+cast-t22 c = let i = c .before .before .before .before .before .before .before .loop .inv .few in omega arith
 
--- src/input.rt:110:32
-add-t22 : tie.Need-add-t22 Inv-loop μ-loop
-add-t22 c = ?
+add-t23 : tie.Need-add-t23 Inv-loop μ-loop
+add-t23 c = let i = c .before .before .before .before .before .before .before .loop .inv .few in omega arith
 
--- src/input.rt:110:13
 same-length-2 : tie.Need-same-length-2 Inv-loop μ-loop
-same-length-2 c = ?
+same-length-2 c = lines-length (c .before .before .before .before .before .before .before .loop .inv)
 
--- src/input.rt:110:13
 returns-3 : tie.Need-returns-3 Inv-loop μ-loop
-returns-3 c = ?
+returns-3 c =
+    let w = c .before .before .before .before .before .before .before in
+    let f = c .before .before .before .before .find2 in
+    line-bad (w .loop .inv) (c .before .before .before .before .before .before .loop-test .taken) (f .result) (f .ensures) (c .before .before .before .before .before .if1 .left)
+    (told-no-ids (c .enum-told2 .given .1) (c .before .before .ids-of-line .ensures))
 
--- src/input.rt:112:13
+mul-at : tie.Need-mul-at Inv-loop μ-loop
+mul-at c = let i = c .before .before .before .before .before .before .before .before .loop .inv .few in omega arith
+
 mul-ids : tie.Need-mul-ids Inv-loop μ-loop
-mul-ids c = ?
+mul-ids c = search needs
 
--- src/input.rt:112:9
-mul-ids-2 : tie.Need-mul-ids-2 Inv-loop μ-loop
-mul-ids-2 c = ?
-
--- src/input.rt:112:9
 slice-write-ids : tie.Need-slice-write-ids Inv-loop μ-loop
-slice-write-ids c = ?
+slice-write-ids c = let i = c .before .before .before .before .before .before .before .before .loop .inv in let d = c .before .before .before .before .before .before .if1 .left in omega (arith, i .few, i .room)
 
--- src/input.rt:113:13
-mul-ids-3 : tie.Need-mul-ids-3 Inv-loop μ-loop
-mul-ids-3 c = ?
-
--- src/input.rt:113:13
 add-ids : tie.Need-add-ids Inv-loop μ-loop
-add-ids c = ?
+add-ids c = let i = c .before .before .before .before .before .before .before .before .loop .inv .few in omega arith
 
--- src/input.rt:113:9
-mul-ids-4 : tie.Need-mul-ids-4 Inv-loop μ-loop
-mul-ids-4 c = ?
+mul-ids-2 : tie.Need-mul-ids-2 Inv-loop μ-loop
+mul-ids-2 c = search needs
 
--- src/input.rt:113:9
 slice-write-ids-2 : tie.Need-slice-write-ids-2 Inv-loop μ-loop
-slice-write-ids-2 c = ?
+slice-write-ids-2 c = let i = c .before .before .before .before .before .before .before .before .loop .inv in let d = c .before .before .before .before .before .before .if1 .left in simp length-set (omega (arith, i .few, i .room))
 
--- src/input.rt:114:13
-mul-ids-5 : tie.Need-mul-ids-5 Inv-loop μ-loop
-mul-ids-5 c = ?
-
--- src/input.rt:114:13
 add-ids-2 : tie.Need-add-ids-2 Inv-loop μ-loop
-add-ids-2 c = ?
+add-ids-2 c = let i = c .before .before .before .before .before .before .before .before .loop .inv .few in omega arith
 
--- src/input.rt:114:9
-mul-ids-6 : tie.Need-mul-ids-6 Inv-loop μ-loop
-mul-ids-6 c = ?
+mul-ids-3 : tie.Need-mul-ids-3 Inv-loop μ-loop
+mul-ids-3 c = search needs
 
--- src/input.rt:114:9
 slice-write-ids-3 : tie.Need-slice-write-ids-3 Inv-loop μ-loop
-slice-write-ids-3 c = ?
+slice-write-ids-3 c = let i = c .before .before .before .before .before .before .before .before .loop .inv in let d = c .before .before .before .before .before .before .if1 .left in simp length-set (omega (arith, i .few, i .room))
 
--- src/input.rt:115:9
 add-lines : tie.Need-add-lines Inv-loop μ-loop
-add-lines c = ?
+add-lines c = let i = c .before .before .before .before .before .before .before .before .loop .inv .few in omega arith
 
--- src/input.rt:103:5
 loop-less : tie.Need-loop-less Inv-loop μ-loop
-loop-less c = ?
+loop-less c = let h = c .before .before .before .before .before .before .before .loop-test .taken in let s = c .before .before .before .before .before .find2 .ensures in omega arith
 
--- src/input.rt:103:5
 loop-again : tie.Need-loop-again Inv-loop μ-loop
-loop-again c = ?
+loop-again c =
+    let w = c .before .before .before .before .before .before .before .before in
+    let f = c .before .before .before .before .before .find2 in
+    line-good (w .loop .inv) (c .before .before .before .before .before .before .before .loop-test .taken) (f .result) (f .ensures) (c .before .before .before .before .before .before .if1 .left)
+    (c .before .s .given .0 .0) (c .before .s .given .0 .1 .0) (c .before .s .given .0 .1 .1 .0)
+    (told-ids (c .before .s .given .1) (c .before .before .before .ids-of-line .ensures))
 
--- src/input.rt:93:1
 same-length-3 : tie.Need-same-length-3 Inv-loop μ-loop
-same-length-3 c = ?
+same-length-3 c = lines-length (c .before .loop .inv)
 
--- src/input.rt:93:1
 returns-4 : tie.Need-returns-4 Inv-loop μ-loop
-returns-4 c = ?
+returns-4 c = lines-end (c .before .loop .inv) (c .loop-test .left)
 
 pub parse-spec : {M : Type 1} → statement M
 parse-spec =
@@ -188,20 +175,18 @@ parse-spec =
     ids-of-line-requires
     enum-known-s
     enum-told-2
-    cast-t21
-    add-t22
+    cast-t22
+    add-t23
     same-length-2
     returns-3
+    mul-at
     mul-ids
-    mul-ids-2
     slice-write-ids
-    mul-ids-3
     add-ids
-    mul-ids-4
+    mul-ids-2
     slice-write-ids-2
-    mul-ids-5
     add-ids-2
-    mul-ids-6
+    mul-ids-3
     slice-write-ids-3
     add-lines
     loop-less
