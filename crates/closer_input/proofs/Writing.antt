@@ -2,14 +2,14 @@
 use mathlib.Core.Path.{_≡_, refl, sym, ap, _∙_}
 use mathlib.Core.List.{List, [], _∷_, _++_, append-assoc, append-nil}
 use Prim.Native.Nat.{ℕ, zero, suc, _+_, _-_, _*_, _/_, _%_, _^_, _≤_, _<_}
-use native.Mathlib.Nat.{add-suc, add-zero, mul-suc}
+use native.Mathlib.Nat.{add-suc, add-zero, mul-zero, mul-suc, mul-le-mul-left}
 use native.Mathlib.Numerals.{add-one}
 use native.Mathlib.Omega.{arith}
 use lib.ListN.{length, getD, take, drop, set, length-append, length-set, length-take, length-drop, drop-of-length-le}
 use lib.Seq.{sets, length-sets, take-suc, drop-cons, drop-drop, take-all, getD-take, getD-drop, drop-nil, take-length}
 use Rattle.closer_input.specs.Decimal.{digits}
-use Rattle.closer_input.specs.Output.{line, table}
-use Rattle.closer_input.specs.Contracts.{Wrote, TableFits}
+use Rattle.closer_input.specs.Output.{ending, line, table}
+use Rattle.closer_input.specs.Contracts.{part, Wrote, TableFits}
 use Rattle.closer_input.proofs.Numerals.{digits-one, digits-more, few-digits}
 
 -- PIECES
@@ -75,3 +75,154 @@ module _ {bytes old : List ℕ} {at : ℕ} {new : List ℕ} {i : ℕ} (fits : at
 
   pub copied-end : length bytes ≤ i → Wrote old at bytes new (at + i)
   copied-end h = rw take-all at (c .wrote)
+
+-- A LINE, a number after the others
+pub ending-none : (others : ℕ) → others ≡ 0 → 10 ≡ ending others
+ending-none zero e = refl
+ending-none (suc n) e = absurd (omega arith)
+
+pub ending-some : (others : ℕ) → (others ≡ 0 → ⊥) → 32 ≡ ending others
+ending-some zero f = absurd (f refl)
+ending-some (suc n) f = refl
+
+-- the numbers of a lent slice
+abbrev pub Words : List ℕ → Type 0
+Words ns = (k : ℕ) → getD ns k 0 < 2 ^ 32
+
+pub short-digits : (n : ℕ) → n < 2 ^ 32 → length (digits n) ≤ 10
+short-digits n h = few-digits 9 n (omega arith)
+
+-- the loop: what is left gives the same as the whole, and no number takes more than eleven bytes
+pub record Lined (ns old : List ℕ) (at : ℕ) (new : List ℕ) (to i : ℕ) : Type 0 where
+  pub text : List ℕ
+  pub wrote : Wrote old at text new to
+  pub left : text ++ line (drop i ns) ≡ line ns
+  pub upto : i ≤ length ns
+  pub room : to ≤ at + 11 * i
+
+pub lined-start : (ns old : List ℕ) (at : ℕ) → at + 11 * length ns ≤ length old → Lined ns old at old at 0
+lined-start ns old at h = record { text = []; wrote = wrote-none old at (omega arith); left = refl; upto = omega arith; room = omega arith }
+
+module _ {ns old : List ℕ} {at : ℕ} {new : List ℕ} {to i : ℕ} (fits : at + 11 * length ns ≤ length old) (c : Lined ns old at new to i) where
+  pub lined-length : length new ≡ length old
+  lined-length = wrote-length (c .wrote)
+
+  pub lined-end : length ns ≤ i → Wrote old at (line ns) new to
+  unfolding line
+  lined-end h = let e : c .text ≡ line ns = sym (append-nil (c .text)) ∙ (rw (drop-of-length-le ns h) at (c .left)) in rw (← e) (c .wrote)
+
+  module _ (h : i < length ns) (l : getD ns i 0 < 2 ^ 32) where
+    -- there is room for one number more
+    pub lined-number : to + length (digits (getD ns i 0)) ≤ length new
+    lined-number = let e = lined-length in let r = c .room in let s = short-digits (getD ns i 0) l in omega arith
+
+    module _ {after : List ℕ} {end : ℕ} (w : Wrote new to (digits (getD ns i 0)) after end) where
+      -- and for the byte after it
+      pub lined-byte : end < length after
+      lined-byte =
+          let e = lined-length in
+          let f = wrote-length w in
+          let r = c .room in
+          let s = short-digits (getD ns i 0) l in
+          let g = w .end in
+          omega arith
+
+      pub lined-step : {b : ℕ} → b ≡ ending (length ns - (i + 1)) → Lined ns old at (set after end b) (end + 1) (i + 1)
+      unfolding line
+      lined-step e = rw e (record {
+        text = (c .text ++ digits (getD ns i 0)) ++ (ending (length ns - (i + 1)) ∷ []);
+        wrote = wrote-then (wrote-then (c .wrote) w) (wrote-byte after end (ending (length ns - (i + 1))) lined-byte);
+        left = rw (add-one i, append-assoc, append-assoc) (rw (drop-cons ns i 0 h, length-drop (suc i) ns) at (c .left));
+        upto = omega arith;
+        room = let s = short-digits (getD ns i 0) l in let g = w .end in let r = c .room in omega arith;
+      })
+
+-- A TABLE, a line after the others. Parts of a lent slice hold numbers too,
+words-drop : (n : ℕ) (ns : List ℕ) → Words ns → Words (drop n ns)
+words-drop n ns f k = rw (getD-drop n ns k 0) (f (n + k))
+
+words-take : (n : ℕ) (ns : List ℕ) → Words ns → Words (take n ns)
+words-take zero ns f k = omega arith
+words-take (suc n) [] f k = omega arith
+words-take (suc n) (x ∷ ns) f zero = f zero
+words-take (suc n) (x ∷ ns) f (suc k) = words-take n ns (λ j. f (suc j)) k
+
+-- and a line of them is short
+line-short : (ns : List ℕ) → Words ns → length (line ns) ≤ 11 * length ns
+unfolding line
+line-short [] f = omega arith
+line-short (n ∷ ns) f =
+    let s = short-digits n (f 0) in
+    let r = line-short ns (λ k. f (suc k)) in
+    simp length-append (omega arith)
+
+-- rows lie one after the other
+rows-apart : (w i rows : ℕ) → i < rows → w * i + w ≤ w * rows
+rows-apart w i rows h = rw (← mul-suc w i) (mul-le-mul-left w h)
+
+-- the loop: what is left gives the same as the whole, and no number takes more than eleven bytes
+pub record Tabled (ns : List ℕ) (w rows : ℕ) (old : List ℕ) (at : ℕ) (new : List ℕ) (to start i : ℕ) : Type 0 where
+  pub text : List ℕ
+  pub wrote : Wrote old at text new to
+  pub left : text ++ table w (rows - i) (drop start ns) ≡ table w rows ns
+  pub place : start ≡ w * i
+  pub upto : i ≤ rows
+  pub room : to ≤ at + 11 * start
+
+pub tabled-start : {ns : List ℕ} {w rows : ℕ} {old : List ℕ} {at : ℕ} → TableFits ns w rows old at → Tabled ns w rows old at old at 0 0
+tabled-start {ns} {w} {rows} {old} {at} f = record {
+  text = [];
+  wrote = wrote-none old at (let r = f .room in omega arith);
+  left = let z : rows - 0 ≡ rows = omega arith in rw z refl;
+  place = sym (mul-zero w);
+  upto = omega arith;
+  room = omega arith;
+}
+
+module _ {ns : List ℕ} {w rows : ℕ} {old : List ℕ} {at : ℕ} {new : List ℕ} {to start i : ℕ} (f : TableFits ns w rows old at) (c : Tabled ns w rows old at new to start i) where
+  pub tabled-length : length new ≡ length old
+  tabled-length = wrote-length (c .wrote)
+
+  pub tabled-end : rows ≤ i → Wrote old at (table w rows ns) new to
+  unfolding table
+  tabled-end h =
+      let z : rows - i ≡ 0 = omega arith in
+      let e : c .text ≡ table w rows ns = sym (append-nil (c .text)) ∙ (rw z at (c .left)) in
+      rw (← e) (c .wrote)
+
+  module _ (h : i < rows) where
+    -- the next row
+    pub tabled-row : start + w ≤ length ns
+    tabled-row = let a = rows-apart w i rows h in let p = c .place in let g = f .held in omega arith
+
+    part-length : length (part ns start (start + w)) ≡ w
+    part-length = let g = tabled-row in let d = length-drop start ns in simp length-take (omega arith)
+
+    pub tabled-fits : to + 11 * length (part ns start (start + w)) ≤ length new
+    tabled-fits =
+        let a = rows-apart w i rows h in
+        let p = c .place in
+        let r = c .room in
+        let g = f .room in
+        let l = tabled-length in
+        let n = part-length in
+        omega arith
+
+    pub tabled-step : {after : List ℕ} {next : ℕ} → Words ns → Wrote new to (line (part ns start (start + w))) after next → Tabled ns w rows old at after next (start + w) (i + 1)
+    unfolding table
+    tabled-step q v = record {
+      text = c .text ++ line (part ns start (start + w));
+      wrote = wrote-then (c .wrote) v;
+      left =
+          let k : rows - i ≡ suc (rows - (i + 1)) = omega arith in
+          let g : start + w - start ≡ w = omega arith in
+          rw (append-assoc, g, ← drop-drop w start ns) (rw k at (c .left));
+      place = let p = c .place in rw (add-one i, mul-suc w i) (omega arith);
+      upto = omega arith;
+      room =
+          let s = line-short (part ns start (start + w)) (words-take (start + w - start) (drop start ns) (words-drop start ns q)) in
+          let n = part-length in
+          let e = v .end in
+          let r = c .room in
+          omega arith;
+    }

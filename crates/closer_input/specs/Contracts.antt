@@ -61,7 +61,6 @@ pub record Wrote (old : List ℕ) (at : ℕ) (bytes new : List ℕ) (next : ℕ)
 
 -- rows of `width` numbers, and room for a line each: a number has at most ten digits
 pub record TableFits (numbers : List ℕ) (width rows : ℕ) (out : List ℕ) (at : ℕ) : Type 0 where
-  pub wide : 1 ≤ width
   pub held : width * rows ≤ length numbers
   pub room : at + 11 * (width * rows) ≤ length out
 

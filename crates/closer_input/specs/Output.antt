@@ -3,15 +3,19 @@
 -- would follow, five numbers a line"; and the names that it puts, "urn:t1 to urn:tN". Assumes nothing.
 use mathlib.Core.List.{List, [], _∷_, _++_}
 use Prim.Native.Nat.{ℕ, zero, suc}
-use lib.ListN.{take, drop}
+use lib.ListN.{length, take, drop}
 use Rattle.common.specs.Text.{text}
 use Rattle.closer_input.specs.Decimal.{digits}
 
--- a line of numbers, one space between
+-- the byte after a number of a line: a space where others follow it, the line feed where none does
+abbrev pub ending : ℕ → ℕ
+ending zero = 10
+ending (suc others) = 32
+
+-- a line of numbers
 unfoldable pub line : List ℕ → List ℕ
-line [] = 10 ∷ []
-line (n ∷ []) = digits n ++ (10 ∷ [])
-line (n ∷ m ∷ ns) = digits n ++ (32 ∷ line (m ∷ ns))
+line [] = []
+line (n ∷ ns) = digits n ++ (ending (length ns) ∷ line ns)
 
 -- the first k rows of w numbers each, a line a row
 unfoldable pub table : ℕ → ℕ → List ℕ → List ℕ

@@ -1,11 +1,12 @@
 // The output: lines of decimal numbers, one space between.
 use crate::decimal::put_number;
+ghost use mathlib.Core.Path.{_≡_};
 ghost use Prim.Native.Nat.{_+_, _*_, _≤_};
 ghost use mathlib.Core.List.{List, [], _∷_, _++_};
 ghost use lib.ListN.{length};
 ghost use Rattle.common.specs.Text.{text};
 ghost use Rattle.closer_input.specs.Decimal.{digits};
-ghost use Rattle.closer_input.specs.Output.{line, table, answer, refusal, bad-line, name};
+ghost use Rattle.closer_input.specs.Output.{ending as Output·ending, line, table, answer, refusal, bad-line, name};
 ghost use Rattle.closer_input.specs.Contracts.{Wrote, TableFits, AnswerFits};
 
 // Writes the bytes from place `at` on, and answers the place after them.
@@ -21,20 +22,27 @@ pub fn put_bytes(bytes: &[u8], out: &mut [u8], at: usize) -> usize
     at + i
 }
 
+// The byte after a number of a line that so many others follow.
+pub fn ending(others: usize) -> u8
+    ensures { λ r. ⌜ r ≡ Output·ending others ⌝ }
+{
+    if others == 0 { 10 } else { 32 }
+}
+
 // Writes a line of the numbers.
 pub fn put_line(numbers: &[u32], out: &mut [u8], at: usize) -> usize
-    requires { ⌜ (1 ≤ length (now numbers)) × (at + 11 * length (now numbers) ≤ length (now out)) ⌝ }
+    requires { ⌜ at + 11 * length (now numbers) ≤ length (now out) ⌝ }
     ensures { λ r. ⌜ Wrote (now (out .entry)) at (line (now (numbers .entry))) (now (out .exit)) r ⌝ }
 {
-    let mut to = put_number(numbers[0], &mut *out, at);
-    let mut i = 1;
+    let mut to = at;
+    let mut i = 0;
     while i < numbers.len() {
-        out[to] = 32;
-        to = put_number(numbers[i], &mut *out, to + 1);
+        let end = put_number(numbers[i], &mut *out, to);
         i += 1;
+        out[end] = ending(numbers.len() - i);
+        to = end + 1;
     }
-    out[to] = 10;
-    to + 1
+    to
 }
 
 // Writes the first `rows` rows of `width` numbers each, a line a row.
