@@ -8,8 +8,8 @@ use native.Mathlib.Omega.{arith}
 use lib.ListN.{length, getD, take, drop, set, length-append, length-set, length-take, length-drop, drop-of-length-le}
 use lib.Seq.{sets, length-sets, take-suc, drop-cons, drop-drop, take-all, getD-take, getD-drop, drop-nil, take-length}
 use Rattle.closer_input.specs.Decimal.{digits}
-use Rattle.closer_input.specs.Output.{ending, line, table}
-use Rattle.closer_input.specs.Contracts.{part, Wrote, TableFits}
+use Rattle.closer_input.specs.Output.{ending, line, table, answer}
+use Rattle.closer_input.specs.Contracts.{part, Wrote, TableFits, AnswerFits}
 use Rattle.closer_input.proofs.Numerals.{digits-one, digits-more, few-digits}
 
 -- PIECES
@@ -226,3 +226,65 @@ module _ {ns : List ℕ} {w rows : ℕ} {old : List ℕ} {at : ℕ} {new : List 
           let r = c .room in
           omega arith;
     }
+
+-- THE OUTPUTS. A number after a word:
+module _ {old : List ℕ} {at : ℕ} {word b : List ℕ} {m : ℕ} (n : ℕ) (h : n < 2 ^ 32) (w : Wrote old at word b m) where
+  pub number-fits : at + length word + 10 ≤ length old → m + length (digits n) ≤ length b
+  number-fits f = let s = short-digits n h in let e = w .end in let l = wrote-length w in omega arith
+
+  -- and a byte after it
+  pub byte-fits : {d : List ℕ} {e : ℕ} → at + length word + 11 ≤ length old → Wrote b m (digits n) d e → e < length d
+  byte-fits f v =
+      let s = short-digits n h in
+      let i = w .end in
+      let j = v .end in
+      let k = wrote-length w in
+      let l = wrote-length v in
+      omega arith
+
+-- a table of numbers is short
+table-short : (w k : ℕ) (ns : List ℕ) → Words ns → length (table w k ns) ≤ 11 * (w * k)
+unfolding table
+table-short w zero ns f = omega arith
+table-short w (suc k) ns f =
+    let s = line-short (take w ns) (words-take w ns f) in
+    let r = table-short w k (drop w ns) (words-drop w ns f) in
+    let l = length-take w ns in
+    rw (mul-suc w k) (simp length-append (omega arith))
+
+-- the counts are numbers
+pub head-words : (t r : ℕ) → t < 2 ^ 32 → r < 2 ^ 32 → Words (0 ∷ t ∷ r ∷ [])
+head-words t r h i zero = omega arith
+head-words t r h i (suc zero) = h
+head-words t r h i (suc (suc zero)) = i
+head-words t r h i (suc (suc (suc k))) = omega arith
+
+module _ {store : List ℕ} {triples : ℕ} {findings : List ℕ} {records : ℕ} {old : List ℕ} (f : AnswerFits store triples findings records old)
+    (h : triples < 2 ^ 32) (i : records < 2 ^ 32) {b : List ℕ} {m : ℕ} (w : Wrote old 0 (line (0 ∷ triples ∷ records ∷ [])) b m) where
+  pub triples-fit : TableFits store 3 triples b m
+  triples-fit = record {
+    held = f .stored;
+    room =
+        let s = line-short (0 ∷ triples ∷ records ∷ []) (head-words triples records h i) in
+        let e = w .end in
+        let l = wrote-length w in
+        let r = f .room in
+        omega arith;
+  }
+
+  pub findings-fit : {d : List ℕ} {n : ℕ} → Words store → Wrote b m (table 3 triples store) d n → TableFits findings 5 records d n
+  findings-fit q v = record {
+    held = f .found;
+    room =
+        let s = line-short (0 ∷ triples ∷ records ∷ []) (head-words triples records h i) in
+        let t = table-short 3 triples store q in
+        let e = w .end in
+        let g = v .end in
+        let k = wrote-length w in
+        let l = wrote-length v in
+        let r = f .room in
+        omega arith;
+  }
+
+  pub answer-whole : {d : List ℕ} {n : ℕ} {c : List ℕ} {last : ℕ} → Wrote b m (table 3 triples store) d n → Wrote d n (table 5 records findings) c last → Wrote old 0 (answer store triples findings records) c last
+  answer-whole u v = wrote-then w (wrote-then u v)

@@ -63,7 +63,13 @@ pub fn put_table(numbers: &[u32], width: usize, rows: usize, out: &mut [u8], at:
 }
 
 // An accepted run: refusal 0, the two counts, the triples, the findings.
-pub fn print_answer(store: &[u32], triples: u32, findings: &[u32], records: u32, out: &mut [u8]) -> usize
+pub fn print_answer(
+    store: &[u32],
+    triples: u32,
+    findings: &[u32],
+    records: u32,
+    out: &mut [u8],
+) -> usize
     requires { ⌜ AnswerFits (now store) triples (now findings) records (now out) ⌝ }
     ensures { λ r. ⌜ Wrote (now (out .entry)) 0 (answer (now (store .entry)) triples (now (findings .entry)) records) (now (out .exit)) r ⌝ }
 {

@@ -1,34 +1,31 @@
+-- `output::print_answer` meets its contract. Assumes nothing.
+use native.Mathlib.Omega.{arith}
 use borrow.Author.Needs.{needs}
+use Rattle.closer_input.proofs.Writing.{triples-fit, findings-fit, answer-whole, wrote-length}
 use Rattle.closer_input.proofs.output.print_answer.Statement.{statement}
 use Rattle.closer_input.proofs.output.print_answer.Tie as tie
-use Rattle.closer_input.proofs.output.print_answer.Reads as reads
-use Rattle.closer_input.proofs.output.print_answer.Lts as lts
-use Rattle.closer_input.proofs.output.put_line.Reads as put-line-reads
-use Rattle.closer_input.proofs.output.put_table.Reads as put-table-reads
 
--- src/output.rt:63:26
 slice-aggregate-put-line : tie.Need-slice-aggregate-put-line
 slice-aggregate-put-line c = search needs
 
--- src/output.rt:63:9
 put-line-requires : tie.Need-put-line-requires
 put-line-requires c κs = search needs
 
--- src/output.rt:64:9
 put-table-requires : tie.Need-put-table-requires
-put-table-requires c κs = ?
+put-table-requires c κs = let z = c .before .before .before .before .before .before .before .before .before in triples-fit (z .pre) (z .fits .triples .fits) (z .fits .records .fits) (c .before .before .before .put-line .ensures)
 
--- src/output.rt:65:5
 put-table-requires-2 : tie.Need-put-table-requires-2
-put-table-requires-2 c κs = ?
+put-table-requires-2 c κs =
+    let z = c .before .before .before .before .before .before .before .before .before .before .before .before .before in
+    findings-fit (z .pre) (z .fits .triples .fits) (z .fits .records .fits) (c .before .before .before .before .before .before .before .put-line .ensures) (λ k. c .before .before .before .before .before .before .before .before .before .before .before .before .shared-slice-known .given k .fits) (c .before .before .before .put-table .ensures)
 
--- src/output.rt:58:1
 same-length : tie.Need-same-length
 same-length c = search needs
 
--- src/output.rt:58:1
 returns : tie.Need-returns
-returns c = ?
+returns c =
+    let z = c .before .before .before .before .before .before .before .before .before .before .before .before .before .before .before .before in
+    answer-whole (z .pre) (z .fits .triples .fits) (z .fits .records .fits) (c .before .before .before .before .before .before .before .before .before .before .put-line .ensures) (c .before .before .before .before .before .before .put-table .ensures) (c .before .before .put-table2 .ensures)
 
 pub print-answer-spec : {M : Type 1} → statement M
 print-answer-spec =

@@ -1,38 +1,35 @@
+-- `output::print_bad_line` meets its contract. Assumes nothing.
+use native.Mathlib.Omega.{arith}
+use lib.ListN.{length-set}
+use mathlib.Core.Path.{_∙_}
 use borrow.Author.Needs.{needs}
+use Rattle.closer_input.proofs.Writing.{wrote-length, wrote-byte, wrote-then, number-fits, byte-fits}
 use Rattle.closer_input.proofs.output.print_bad_line.Statement.{statement}
 use Rattle.closer_input.proofs.output.print_bad_line.Tie as tie
-use Rattle.closer_input.proofs.output.print_bad_line.Reads as reads
-use Rattle.closer_input.proofs.output.print_bad_line.Lts as lts
-use Rattle.closer_input.proofs.decimal.put_number.Reads as put-number-reads
-use Rattle.closer_input.proofs.output.put_bytes.Reads as put-bytes-reads
 
--- src/output.rt:82:27
 slice-aggregate-put-bytes : tie.Need-slice-aggregate-put-bytes
 slice-aggregate-put-bytes c = search needs
 
--- src/output.rt:82:9
 put-bytes-requires : tie.Need-put-bytes-requires
 put-bytes-requires c κs = search needs
 
--- src/output.rt:83:9
 put-number-requires : tie.Need-put-number-requires
-put-number-requires c κs = ?
+put-number-requires c κs = let z = c .before .before .before .before .before .before .before in let p = z .pre in number-fits (z .args .number) (z .fits .number .fits) (c .before .before .before .put-bytes .ensures) (omega arith)
 
--- src/output.rt:84:5
 slice-write-out : tie.Need-slice-write-out
-slice-write-out c = ?
+slice-write-out c = let z = c .before .before .before .before .before .before .before .before .before .before in byte-fits (z .args .number) (z .fits .number .fits) (c .before .before .before .before .before .before .put-bytes .ensures) (z .pre) (c .before .before .put-number .ensures)
 
--- src/output.rt:85:5
 add-result : tie.Need-add-result
 add-result c = search needs
 
--- src/output.rt:78:1
 same-length : tie.Need-same-length
-same-length c = ?
+same-length c = simp length-set (wrote-length (c .before .before .put-number .ensures) ∙ wrote-length (c .before .before .before .before .before .before .put-bytes .ensures))
 
--- src/output.rt:78:1
 returns : tie.Need-returns
-returns c = ?
+returns c =
+    let z = c .before .before .before .before .before .before .before .before .before .before in
+    let h = byte-fits (z .args .number) (z .fits .number .fits) (c .before .before .before .before .before .before .put-bytes .ensures) (z .pre) (c .before .before .put-number .ensures) in
+    wrote-then (wrote-then (c .before .before .before .before .before .before .put-bytes .ensures) (c .before .before .put-number .ensures)) (wrote-byte (c .before .before .put-number .last .1 .0) (c .before .before .put-number .result) 10 h)
 
 pub print-bad-line-spec : {M : Type 1} → statement M
 print-bad-line-spec =
