@@ -1,3 +1,4 @@
 pub mod Numerals
 pub mod Writing
 pub mod Reading
+pub mod Longest

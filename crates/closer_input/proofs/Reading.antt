@@ -134,7 +134,7 @@ found-line bs at end h is =
     lines-next (drop at bs) (omega arith) ∙ rw (found-part 10 bs at end up is, found-rest 10 bs at end up is) refl
 
 -- a line has a field, empty or not
-fields-some : (bs : List ℕ) → (d : List ℕ) × (ds : List (List ℕ)) × (fields bs ≡ d ∷ ds)
+pub fields-some : (bs : List ℕ) → (d : List ℕ) × (ds : List (List ℕ)) × (fields bs ≡ d ∷ ds)
 fields-some bs = go (either (ltb (length (before 32 bs)) (length bs)))
   where
     go : (ltb (length (before 32 bs)) (length bs) ≡ true) ⊎ (ltb (length (before 32 bs)) (length bs) ≡ false) → (d : List ℕ) × (ds : List (List ℕ)) × (fields bs ≡ d ∷ ds)
