@@ -2,3 +2,4 @@ pub mod Numerals
 pub mod Writing
 pub mod Reading
 pub mod Longest
+pub mod Cases

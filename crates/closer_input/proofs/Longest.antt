@@ -16,7 +16,7 @@ use Rattle.closer_input.specs.Decimal.{number, digits}
 use Rattle.closer_input.specs.Input.{before, onto, parts, lines, fields, on, id, three-ids, id-line, count-line, Reading, reading, id-lines, read-lines, read, Parsed, bad-line, input, parsed, parse}
 use Rattle.closer_input.proofs.Numerals.{either, Numeral, numeral, digits-number, few-digits}
 use Rattle.closer_input.proofs.Writing.{short-digits}
-use Rattle.closer_input.proofs.Reading.{before-short, fields-some, lines-next}
+use Rattle.closer_input.proofs.Reading.{before-short, fields-some, after-line, lines-next}
 
 -- none is not some
 none-some : {A : Type 0} {a : A} {B : Type 0} → none ≡ some a → B
@@ -113,10 +113,10 @@ module _ {A : Type 0} (P : List ℕ → Option A) (most : ℕ) (short : (l : Lis
       go (inr t) = let l = before-long 10 n bs (leb-false (length (before 10 bs)) n t) in long-none (before 10 (take n bs)) (omega arith)
 
 -- LINES OF A CUT TEXT: the first, whole or cut, and those after it where it is whole
-lines-cut : (n : ℕ) (bs : List ℕ) → 0 < n → 0 < length bs → lines (take n bs) ≡ before 10 (take n bs) ∷ lines (drop (suc (length (before 10 (take n bs)))) (take n bs))
+lines-cut : (n : ℕ) (bs : List ℕ) → 0 < n → 0 < length bs → lines (take n bs) ≡ before 10 (take n bs) ∷ lines (after-line (take n bs))
 lines-cut n bs h i = let l = length-take n bs in lines-next (take n bs) (omega arith)
 
-lines-whole : (n : ℕ) (bs : List ℕ) → 0 < n → 0 < length bs → length (before 10 bs) ≤ n → lines (take n bs) ≡ before 10 bs ∷ lines (take (n - suc (length (before 10 bs))) (drop (suc (length (before 10 bs))) bs))
+lines-whole : (n : ℕ) (bs : List ℕ) → 0 < n → 0 < length bs → length (before 10 bs) ≤ n → lines (take n bs) ≡ before 10 bs ∷ lines (take (n - suc (length (before 10 bs))) (after-line bs))
 lines-whole n bs h i s = lines-cut n bs h i ∙ rw (before-cut 10 n bs s, drop-take (suc (length (before 10 bs))) n bs) refl
 
 -- ID LINES by their tests
@@ -140,8 +140,8 @@ ids-next c k is l t ls h e = rw (le-leb k 1001 h, e) refl
 over-cut : (c k n : ℕ) (is bs : List ℕ) → 1001 < k → 0 < n → id-lines c k is (lines (take n bs)) ≡ id-lines c k is (lines bs)
 over-cut c k n is [] h i = ap (λ x. id-lines c k is (lines x)) (take-nil n)
 over-cut c k n is (b ∷ bs) h i =
-    let u : lines (b ∷ bs) ≡ before 10 (b ∷ bs) ∷ lines (drop (suc (length (before 10 (b ∷ bs)))) (b ∷ bs)) = lines-next (b ∷ bs) (omega arith) in
-    rw (lines-cut n (b ∷ bs) i (omega arith), u, ids-over) (sym (ids-over c k is (before 10 (b ∷ bs)) (lines (drop (suc (length (before 10 (b ∷ bs)))) (b ∷ bs))) h))
+    let u : lines (b ∷ bs) ≡ before 10 (b ∷ bs) ∷ lines (after-line (b ∷ bs)) = lines-next (b ∷ bs) (omega arith) in
+    rw (lines-cut n (b ∷ bs) i (omega arith), u, ids-over) (sym (ids-over c k is (before 10 (b ∷ bs)) (lines (after-line (b ∷ bs))) h))
 
 -- a line that is not too many, whole or cut: if it is bad, so is what is left of it, and else it is whole
 line-cut : (r c k n : ℕ) (is bs : List ℕ) → k + suc r ≡ 1002 → 33 * suc r < n
@@ -157,11 +157,11 @@ line-cut r c k n is (b ∷ bs) h i ih = go (id-line (before 10 (b ∷ bs))) refl
     go none e =
         let f = cut-none id-line 32 short-ids n (b ∷ bs) (omega arith) e in
         rw (lines-cut n (b ∷ bs) (omega arith) some-byte, lines-next (b ∷ bs) some-byte)
-        (ids-stop c k is (before 10 (take n (b ∷ bs))) (lines (drop (suc (length (before 10 (take n (b ∷ bs))))) (take n (b ∷ bs)))) f
-        ∙ sym (ids-stop c k is (before 10 (b ∷ bs)) (lines (drop (suc (length (before 10 (b ∷ bs)))) (b ∷ bs))) e))
+        (ids-stop c k is (before 10 (take n (b ∷ bs))) (lines (after-line (take n (b ∷ bs)))) f
+        ∙ sym (ids-stop c k is (before 10 (b ∷ bs)) (lines (after-line (b ∷ bs))) e))
     go (some t) e =
         let s = short-ids (before 10 (b ∷ bs)) t e in
-        let rest : List ℕ = drop (suc (length (before 10 (b ∷ bs)))) (b ∷ bs) in
+        let rest : List ℕ = after-line (b ∷ bs) in
         let m : ℕ = n - suc (length (before 10 (b ∷ bs))) in
         rw (lines-whole n (b ∷ bs) (omega arith) some-byte (omega arith), lines-next (b ∷ bs) some-byte)
         (ids-next c k is (before 10 (b ∷ bs)) t (lines (take m rest)) (omega arith) e
@@ -189,7 +189,7 @@ read-cut n (b ∷ bs) h = go (count-line (before 10 (b ∷ bs))) refl
     go (some c) e =
         let s = short-count (before 10 (b ∷ bs)) c e in
         rw (lines-whole n (b ∷ bs) (omega arith) some-byte (omega arith), lines-next (b ∷ bs) some-byte, e)
-        (ids-cut 1000 c 2 (n - suc (length (before 10 (b ∷ bs)))) [] (drop (suc (length (before 10 (b ∷ bs)))) (b ∷ bs)) refl (omega arith))
+        (ids-cut 1000 c 2 (n - suc (length (before 10 (b ∷ bs)))) [] (after-line (b ∷ bs)) refl (omega arith))
 
 pub parse-cut : (text : List ℕ) → parse (take 33005 text) ≡ parse text
 unfolding parse
@@ -225,35 +225,35 @@ line-length : (r c k : ℕ) (is bs : List ℕ) → k + suc r ≡ 1002 → id-lin
 line-length r c k is [] h e ih = omega arith
 line-length r c k is (b ∷ bs) h e ih = go (id-line (before 10 (b ∷ bs))) refl
   where
-    split : id-lines c k is (before 10 (b ∷ bs) ∷ lines (drop (suc (length (before 10 (b ∷ bs)))) (b ∷ bs))) .bad ≡ none
+    split : id-lines c k is (before 10 (b ∷ bs) ∷ lines (after-line (b ∷ bs))) .bad ≡ none
     split = rw (lines-next (b ∷ bs) (omega arith)) at e
 
     go : (x : Option (List ℕ)) → id-line (before 10 (b ∷ bs)) ≡ x → length (b ∷ bs) ≤ 33 * suc r
-    go none f = none-some (sym split ∙ ap (λ x. x .bad) (ids-stop c k is (before 10 (b ∷ bs)) (lines (drop (suc (length (before 10 (b ∷ bs)))) (b ∷ bs))) f))
+    go none f = none-some (sym split ∙ ap (λ x. x .bad) (ids-stop c k is (before 10 (b ∷ bs)) (lines (after-line (b ∷ bs))) f))
     go (some t) f =
         let s = short-ids (before 10 (b ∷ bs)) t f in
-        let n = ids-next c k is (before 10 (b ∷ bs)) t (lines (drop (suc (length (before 10 (b ∷ bs)))) (b ∷ bs))) (omega arith) f in
-        let i = ih t (drop (suc (length (before 10 (b ∷ bs)))) (b ∷ bs)) (sym (ap (λ x. x .bad) n) ∙ split) in
+        let n = ids-next c k is (before 10 (b ∷ bs)) t (lines (after-line (b ∷ bs))) (omega arith) f in
+        let i = ih t (after-line (b ∷ bs)) (sym (ap (λ x. x .bad) n) ∙ split) in
         let l = length-drop (suc (length (before 10 (b ∷ bs)))) (b ∷ bs) in
         omega arith
 
 ids-length : (r c k : ℕ) (is bs : List ℕ) → k + r ≡ 1002 → id-lines c k is (lines bs) .bad ≡ none → length bs ≤ 33 * r
 ids-length zero c k is [] h e = omega arith
-ids-length zero c k is (b ∷ bs) h e = none-some (sym (rw (lines-next (b ∷ bs) (omega arith)) at e) ∙ ap (λ x. x .bad) (ids-over c k is (before 10 (b ∷ bs)) (lines (drop (suc (length (before 10 (b ∷ bs)))) (b ∷ bs))) (omega arith)))
+ids-length zero c k is (b ∷ bs) h e = none-some (sym (rw (lines-next (b ∷ bs) (omega arith)) at e) ∙ ap (λ x. x .bad) (ids-over c k is (before 10 (b ∷ bs)) (lines (after-line (b ∷ bs))) (omega arith)))
 ids-length (suc r) c k is bs h e = line-length r c k is bs h e (λ t rest f. ids-length r c (suc k) (is ++ t) rest (omega arith) f)
 
 -- the count's line and the lines after it
 record Counts (text : List ℕ) : Type 0 where
   n : ℕ
   first : count-line (before 10 text) ≡ some n
-  after : read text ≡ id-lines n 2 [] (lines (drop (suc (length (before 10 text))) text))
+  after : read text ≡ id-lines n 2 [] (lines (after-line text))
 
 counts : (text : List ℕ) → read text .bad ≡ none → Counts text
 unfolding read parts
 counts [] e = none-some (sym e)
 counts (b ∷ bs) e = go (count-line (before 10 (b ∷ bs))) refl
   where
-    split : read-lines (lines (b ∷ bs)) ≡ read-lines (before 10 (b ∷ bs) ∷ lines (drop (suc (length (before 10 (b ∷ bs)))) (b ∷ bs)))
+    split : read-lines (lines (b ∷ bs)) ≡ read-lines (before 10 (b ∷ bs) ∷ lines (after-line (b ∷ bs)))
     split = ap read-lines (lines-next (b ∷ bs) (omega arith))
 
     go : (x : Option ℕ) → count-line (before 10 (b ∷ bs)) ≡ x → Counts (b ∷ bs)
@@ -266,7 +266,7 @@ longest text n is e =
     let g = good text n is e in
     let c = counts text (g .whole) in
     let s = short-count (before 10 text) (c .n) (c .first) in
-    let l = ids-length 1000 (c .n) 2 [] (drop (suc (length (before 10 text))) text) refl (sym (ap (λ x. x .bad) (c .after)) ∙ g .whole) in
+    let l = ids-length 1000 (c .n) 2 [] (after-line text) refl (sym (ap (λ x. x .bad) (c .after)) ∙ g .whole) in
     let d = length-drop (suc (length (before 10 text))) text in
     omega arith
 
@@ -276,5 +276,5 @@ count-small text n is e =
     let g = good text n is e in
     let c = counts text (g .whole) in
     let m = numeral 500 (before 10 text) (c .n) (c .first) .most-is in
-    let k = sym (ids-count (c .n) 2 [] (lines (drop (suc (length (before 10 text))) text))) ∙ ap (λ x. x .count) (sym (c .after)) ∙ g .count-is in
+    let k = sym (ids-count (c .n) 2 [] (lines (after-line text))) ∙ ap (λ x. x .count) (sym (c .after)) ∙ g .count-is in
     omega arith

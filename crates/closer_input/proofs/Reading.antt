@@ -95,13 +95,17 @@ parts-last e (b ∷ bs) h = go (λ i. parts-last e bs i) (either (eqb b e))
     go ih (inl t) = absurd (omega (arith, rw t at h))
     go ih (inr t) = let i : length (before e bs) ≡ length bs = omega (arith, rw t at h) in rw (t, ih i) refl
 
+-- what follows the first line feed
+abbrev pub after-line : List ℕ → List ℕ
+after-line bs = drop (suc (length (before 10 bs))) bs
+
 -- a line and the lines after it
-pub lines-next : (bs : List ℕ) → 0 < length bs → lines bs ≡ before 10 bs ∷ lines (drop (suc (length (before 10 bs))) bs)
+pub lines-next : (bs : List ℕ) → 0 < length bs → lines bs ≡ before 10 bs ∷ lines (after-line bs)
 unfolding before parts
 lines-next [] h = absurd (omega arith)
 lines-next (b ∷ bs) h = go bs (λ i. lines-next bs i) (either (eqb b 10))
   where
-    go : (cs : List ℕ) → (0 < length cs → lines cs ≡ before 10 cs ∷ lines (drop (suc (length (before 10 cs))) cs)) → (eqb b 10 ≡ true) ⊎ (eqb b 10 ≡ false) → lines (b ∷ cs) ≡ before 10 (b ∷ cs) ∷ lines (drop (suc (length (before 10 (b ∷ cs)))) (b ∷ cs))
+    go : (cs : List ℕ) → (0 < length cs → lines cs ≡ before 10 cs ∷ lines (after-line cs)) → (eqb b 10 ≡ true) ⊎ (eqb b 10 ≡ false) → lines (b ∷ cs) ≡ before 10 (b ∷ cs) ∷ lines (after-line (b ∷ cs))
     go cs ih (inl t) = rw t refl
     go [] ih (inr t) = rw t refl
     go (c ∷ cs) ih (inr t) = rw (t, ih (omega arith)) refl

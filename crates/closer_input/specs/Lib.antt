@@ -2,3 +2,4 @@ pub mod Decimal
 pub mod Input
 pub mod Output
 pub mod Contracts
+pub mod Cases
