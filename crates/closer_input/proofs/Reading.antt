@@ -15,16 +15,17 @@ use borrow.Author.Tests.{ltb-true, ltb-false, eqb-true, eqb-false, eq-eqb, ne-eq
 use Rattle.common.specs.Triples.{if}
 use Rattle.closer_input.specs.Decimal.{number}
 use Rattle.closer_input.specs.Input.{before, onto, parts, lines, fields, on, id, three-ids, id-line, count-line, Reading, reading, id-lines, read-lines, read, Parsed, bad-line, input, parsed, parse}
-use Rattle.closer_input.specs.Contracts.{number-of, part, TwoSpaces, SpacesOf, ids-of, ParseOf}
+use Rattle.closer_input.specs.Contracts.{number-of, part, TwoSpaces, SpacesOf, ids-of, parsed-of, lines-of, ParseOf}
 use Rattle.closer_input.specs.declared.decimal.Field.{Field}
 use Rattle.closer_input.specs.declared.decimal.Field.the-variants.{Number, Bad as No-number}
 use Rattle.closer_input.specs.declared.input.Spaces.{Spaces}
 use Rattle.closer_input.specs.declared.input.Spaces.the-variants.{Two, Other}
 use Rattle.closer_input.specs.declared.input.Line.{Line}
 use Rattle.closer_input.specs.declared.input.Line.the-variants.{Ids, Bad as No-ids}
+use Rattle.closer_input.specs.declared.input.Parsed.{Parsed as Answer}
 use Rattle.closer_input.specs.declared.input.Parsed.the-variants.{Bad, Input}
 use Rattle.closer_input.proofs.Numerals.{either, number-empty}
-use Rattle.closer_input.proofs.Writing.{sets-append}
+use Rattle.closer_input.proofs.Writing.{sets-append, take-sets}
 
 -- THE FIRST e of a text
 before-found : (e b : ℕ) (bs : List ℕ) → b ≡ e → before e (b ∷ bs) ≡ []
@@ -243,13 +244,6 @@ count-bad text old first is e = parse-bad 0 [] 1 (go text first is e) refl
     go [] first is e = refl
     go (b ∷ bs) first is e = ap read-lines (first-line (b ∷ bs) first (omega arith) is) ∙ rw e refl
 
--- what was stored, with what stands before it
-take-sets : (l : List ℕ) (i : ℕ) (vs : List ℕ) → i + length vs ≤ length l → take (i + length vs) (sets l i vs) ≡ take i l ++ vs
-take-sets l i vs h =
-    let a = length-append (take i l) vs in
-    let b = length-take-le i l (omega arith) in
-    ap (λ x. take (i + length vs) x) (sets-eq vs l i h) ∙ take-at (take i l ++ vs) (drop (i + length vs) l) (i + length vs) (omega arith)
-
 -- THE LOOP over the id lines: the ids of k lines stand at the front, the rest is as it was, and what is left gives the same as the whole
 pub record LinesRead (text old : List ℕ) (n : ℕ) (new : List ℕ) (end k : ℕ) : Type 0 where
   pub few : k ≤ 1000
@@ -323,3 +317,13 @@ module _ {text old : List ℕ} {n : ℕ} {new : List ℕ} {end k : ℕ} (c : Lin
   -- a line too many, whatever it holds
   pub line-too-many : end + 1 < length text → k ≡ 1000 → ParseOf text old (Bad 1002) new
   line-too-many h e = one-too-many h (end + 1 + length (before 10 (drop (end + 1) text))) refl e
+
+-- FOR CALLERS: what an answer that was matched says of the input
+pub told-bad : {text old : List ℕ} {r : Answer} {k : ℕ} {new : List ℕ} → r ≡ Bad k → ParseOf text old r new → parse text ≡ bad-line k
+told-bad {new = new} e c = sym (c .answer) ∙ ap (λ x. parsed-of x new) e
+
+pub told-input : {text old : List ℕ} {r : Answer} {n k : ℕ} {new : List ℕ} → r ≡ Input n k → ParseOf text old r new → parse text ≡ input n (take (3 * k) new)
+told-input {new = new} e c = sym (c .answer) ∙ ap (λ x. parsed-of x new) e
+
+pub told-few : {text old : List ℕ} {r : Answer} {n k : ℕ} {new : List ℕ} → r ≡ Input n k → ParseOf text old r new → k ≤ 1000
+told-few e c = subst (λ x. lines-of x ≤ 1000) e (c .few)

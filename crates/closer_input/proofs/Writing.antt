@@ -2,11 +2,11 @@
 use mathlib.Core.Path.{_≡_, refl, sym, ap, _∙_}
 use mathlib.Core.List.{List, [], _∷_, _++_, append-assoc, append-nil}
 use Prim.Native.Nat.{ℕ, zero, suc, _+_, _-_, _*_, _/_, _%_, _^_, _≤_, _<_}
-use native.Mathlib.Nat.{add-suc, add-zero, mul-zero, mul-suc, mul-le-mul-left}
+use native.Mathlib.Nat.{add-suc, add-zero, zero-add, mul-zero, mul-suc, mul-le-mul-left}
 use native.Mathlib.Numerals.{add-one}
 use native.Mathlib.Omega.{arith}
 use lib.ListN.{length, getD, take, drop, set, length-append, length-set, length-take, length-drop, drop-of-length-le}
-use lib.Seq.{sets, length-sets, take-suc, drop-cons, drop-drop, take-all, getD-take, getD-drop, drop-nil, take-length}
+use lib.Seq.{sets, sets-eq, length-sets, length-take-le, take-at, take-suc, drop-cons, drop-drop, take-all, getD-take, getD-drop, drop-nil, take-length}
 use Rattle.closer_input.specs.Decimal.{digits}
 use Rattle.closer_input.specs.Output.{ending, line, table, answer}
 use Rattle.closer_input.specs.Contracts.{part, Wrote, TableFits, AnswerFits}
@@ -17,15 +17,22 @@ pub sets-append : (l : List ℕ) (i : ℕ) (xs ys : List ℕ) → sets l i (xs +
 sets-append l i [] ys = ap (λ k. sets l k ys) (sym (add-zero i))
 sets-append l i (x ∷ xs) ys = sets-append (set l i x) (suc i) xs ys ∙ ap (λ k. sets (sets (set l i x) (suc i) xs) k ys) (omega arith)
 
+-- what was stored, with what stands before it
+pub take-sets : (l : List ℕ) (i : ℕ) (vs : List ℕ) → i + length vs ≤ length l → take (i + length vs) (sets l i vs) ≡ take i l ++ vs
+take-sets l i vs h =
+    let a = length-append (take i l) vs in
+    let b = length-take-le i l (omega arith) in
+    ap (λ x. take (i + length vs) x) (sets-eq vs l i h) ∙ take-at (take i l ++ vs) (drop (i + length vs) l) (i + length vs) (omega arith)
+
 pub wrote-length : {old : List ℕ} {at : ℕ} {bytes new : List ℕ} {next : ℕ} → Wrote old at bytes new next → length new ≡ length old
 wrote-length {old} {at} {bytes} w = ap length (w .out) ∙ length-sets old at bytes
 
 -- nothing, and one byte
 pub wrote-none : (old : List ℕ) (at : ℕ) → at ≤ length old → Wrote old at [] old at
-wrote-none old at h = record { out = refl; end = sym (add-zero at); within = h }
+wrote-none old at h = record { out = refl; end = sym (add-zero at); within = h; front = sym (length-take-le at old h) }
 
 pub wrote-byte : (old : List ℕ) (at b : ℕ) → at < length old → Wrote old at (b ∷ []) (set old at b) (at + 1)
-wrote-byte old at b h = record { out = refl; end = refl; within = simp length-set (omega arith) }
+wrote-byte old at b h = let i : at + 1 ≤ length (set old at b) = simp length-set (omega arith) in record { out = refl; end = refl; within = i; front = sym (length-take-le (at + 1) (set old at b) i) }
 
 -- one piece, then another where the first ends
 pub wrote-then : {a : List ℕ} {at : ℕ} {xs b : List ℕ} {m : ℕ} {ys c : List ℕ} {n : ℕ} → Wrote a at xs b m → Wrote b m ys c n → Wrote a at (xs ++ ys) c n
@@ -33,7 +40,16 @@ wrote-then {a} {at} {xs} {b} {m} {ys} {c} {n} v w = record {
   out = w .out ∙ rw (v .out, v .end, sets-append a at xs ys) refl;
   end = w .end ∙ rw (v .end) (simp length-append (omega arith));
   within = w .within;
+  front = w .front;
 }
+
+-- what was written from place 0 on is the front of the buffer, which a program prints
+pub wrote-front : {old bytes new : List ℕ} {next : ℕ} → Wrote old 0 bytes new next → take next new ≡ bytes
+wrote-front {old} {bytes} {new} {next} w =
+    let l = wrote-length w in
+    let i = w .within in
+    let e : next ≡ length bytes = w .end ∙ zero-add (length bytes) in
+    rw (w .out, e) (ap (λ k. take k (sets old 0 bytes)) (sym (zero-add (length bytes))) ∙ take-sets old 0 bytes (omega arith))
 
 -- A NUMBER, a digit after the others
 pub length-one : (n : ℕ) → n < 10 → length (digits n) ≡ 1

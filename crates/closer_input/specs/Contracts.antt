@@ -58,6 +58,8 @@ pub record Wrote (old : List ℕ) (at : ℕ) (bytes new : List ℕ) (next : ℕ)
   pub out : new ≡ sets old at bytes
   pub end : next ≡ at + length bytes
   pub within : next ≤ length new
+  -- follows from `within`, and is stated so that a program that prints `&out[..next]` finds it
+  pub front : next ≡ length (take next new)
 
 -- rows of `width` numbers, and room for a line each: a number has at most ten digits
 pub record TableFits (numbers : List ℕ) (width rows : ℕ) (out : List ℕ) (at : ℕ) : Type 0 where
