@@ -53,9 +53,9 @@ seeking-step {bs} {e} {at} {i} s h f = rw add-one (record {
   is = s .is ∙ rw (drop-cons bs i 0 h, before-next e (getD bs i 0) (drop (suc i) bs) f) (omega arith);
 })
 
-pub seeking-end : {bs : List ℕ} {e at i : ℕ} → Seeking bs e at i → length bs ≤ i → i ≡ at + length (before e (drop at bs))
+pub seeking-end : {bs : List ℕ} {e at i : ℕ} → Seeking bs e at i → length bs ≤ i → length bs ≡ at + length (before e (drop at bs))
 unfolding before
-seeking-end {bs} {e} {at} {i} s h = sym (s .is ∙ rw (drop-of-length-le bs h) (add-zero i))
+seeking-end {bs} {e} {at} {i} s h = let u = s .upto in let q : i + 0 ≡ length bs = omega arith in sym (s .is ∙ rw (drop-of-length-le bs h) q)
 
 -- what stands before it is the front of the text
 pub before-short : (e : ℕ) (bs : List ℕ) → length (before e bs) ≤ length bs

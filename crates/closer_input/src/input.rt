@@ -16,7 +16,8 @@ const TERMS: u32 = 500;
 // At most so many id lines.
 const LINES: usize = 1000;
 
-// One byte more than the longest good input has: 4 for the count, 33 for an id line.
+// One byte more than the longest good input has, which is 4 bytes for the count and 33 for each id line: so many decide as much as the
+// whole input (proofs/Longest.antt, parse-cut).
 pub const INPUT: usize = 33005;
 
 // The first place from `at` on that has the byte, or the length where none has.
@@ -31,7 +32,7 @@ pub fn find(bytes: &[u8], at: usize, byte: u8) -> usize
         }
         i += 1;
     }
-    i
+    bytes.len()
 }
 
 // Where the spaces of a line are, if there are two.
