@@ -1,0 +1,5 @@
+pub mod Numerals
+pub mod Writing
+pub mod Reading
+pub mod Longest
+pub mod Cases

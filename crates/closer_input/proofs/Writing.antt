@@ -1,0 +1,306 @@
+-- Text written into a lent buffer: one piece after the other, a line, a table. Assumes nothing.
+use mathlib.Core.Path.{_≡_, refl, sym, ap, _∙_}
+use mathlib.Core.List.{List, [], _∷_, _++_, append-assoc, append-nil}
+use Prim.Native.Nat.{ℕ, zero, suc, _+_, _-_, _*_, _/_, _%_, _^_, _≤_, _<_}
+use native.Mathlib.Nat.{add-suc, add-zero, zero-add, mul-zero, mul-suc, mul-le-mul-left}
+use native.Mathlib.Numerals.{add-one}
+use native.Mathlib.Omega.{arith}
+use lib.ListN.{length, getD, take, drop, set, length-append, length-set, length-take, length-drop, drop-of-length-le}
+use lib.Seq.{sets, sets-eq, length-sets, length-take-le, take-at, take-suc, drop-cons, drop-drop, take-all, getD-take, getD-drop, drop-nil, take-length}
+use Rattle.closer_input.specs.Decimal.{digits}
+use Rattle.closer_input.specs.Output.{ending, line, table, answer}
+use Rattle.closer_input.specs.Contracts.{part, Wrote, TableFits, AnswerFits}
+use Rattle.closer_input.proofs.Numerals.{digits-one, digits-more, few-digits}
+
+-- PIECES
+pub sets-append : (l : List ℕ) (i : ℕ) (xs ys : List ℕ) → sets l i (xs ++ ys) ≡ sets (sets l i xs) (i + length xs) ys
+sets-append l i [] ys = ap (λ k. sets l k ys) (sym (add-zero i))
+sets-append l i (x ∷ xs) ys = sets-append (set l i x) (suc i) xs ys ∙ ap (λ k. sets (sets (set l i x) (suc i) xs) k ys) (omega arith)
+
+-- what was stored, with what stands before it
+pub take-sets : (l : List ℕ) (i : ℕ) (vs : List ℕ) → i + length vs ≤ length l → take (i + length vs) (sets l i vs) ≡ take i l ++ vs
+take-sets l i vs h =
+    let a = length-append (take i l) vs in
+    let b = length-take-le i l (omega arith) in
+    ap (λ x. take (i + length vs) x) (sets-eq vs l i h) ∙ take-at (take i l ++ vs) (drop (i + length vs) l) (i + length vs) (omega arith)
+
+pub wrote-length : {old : List ℕ} {at : ℕ} {bytes new : List ℕ} {next : ℕ} → Wrote old at bytes new next → length new ≡ length old
+wrote-length {old} {at} {bytes} w = ap length (w .out) ∙ length-sets old at bytes
+
+-- nothing, and one byte
+pub wrote-none : (old : List ℕ) (at : ℕ) → at ≤ length old → Wrote old at [] old at
+wrote-none old at h = record { out = refl; end = sym (add-zero at); within = h; front = sym (length-take-le at old h) }
+
+pub wrote-byte : (old : List ℕ) (at b : ℕ) → at < length old → Wrote old at (b ∷ []) (set old at b) (at + 1)
+wrote-byte old at b h = let i : at + 1 ≤ length (set old at b) = simp length-set (omega arith) in record { out = refl; end = refl; within = i; front = sym (length-take-le (at + 1) (set old at b) i) }
+
+-- one piece, then another where the first ends
+pub wrote-then : {a : List ℕ} {at : ℕ} {xs b : List ℕ} {m : ℕ} {ys c : List ℕ} {n : ℕ} → Wrote a at xs b m → Wrote b m ys c n → Wrote a at (xs ++ ys) c n
+wrote-then {a} {at} {xs} {b} {m} {ys} {c} {n} v w = record {
+  out = w .out ∙ rw (v .out, v .end, sets-append a at xs ys) refl;
+  end = w .end ∙ rw (v .end) (simp length-append (omega arith));
+  within = w .within;
+  front = w .front;
+}
+
+-- what was written from place 0 on is the front of the buffer, which a program prints
+pub wrote-front : {old bytes new : List ℕ} {next : ℕ} → Wrote old 0 bytes new next → take next new ≡ bytes
+wrote-front {old} {bytes} {new} {next} w =
+    let l = wrote-length w in
+    let i = w .within in
+    let e : next ≡ length bytes = w .end ∙ zero-add (length bytes) in
+    rw (w .out, e) (ap (λ k. take k (sets old 0 bytes)) (sym (zero-add (length bytes))) ∙ take-sets old 0 bytes (omega arith))
+
+-- A NUMBER, a digit after the others
+pub length-one : (n : ℕ) → n < 10 → length (digits n) ≡ 1
+length-one n h = ap length (digits-one n h)
+
+pub length-more : (n : ℕ) → 10 ≤ n → length (digits n) ≡ length (digits (n / 10)) + 1
+length-more n h = ap length (digits-more n h) ∙ simp length-append
+
+pub wrote-one : (n : ℕ) (out : List ℕ) (at : ℕ) → n < 10 → at + length (digits n) ≤ length out → Wrote out at (digits n) (set out at (48 + n)) (at + 1)
+wrote-one n out at h f = let e = length-one n h in rw (digits-one n h) (wrote-byte out at (48 + n) (omega arith))
+
+-- there is room for the last digit
+pub last-fits : (n : ℕ) {out b : List ℕ} {at last : ℕ} → 10 ≤ n → at + length (digits n) ≤ length out → Wrote out at (digits (n / 10)) b last → last < length b
+last-fits n h f w = let e = length-more n h in let l = wrote-length w in let k = w .end in omega arith
+
+pub wrote-more : (n : ℕ) {out b : List ℕ} {at last : ℕ} → 10 ≤ n → at + length (digits n) ≤ length out → Wrote out at (digits (n / 10)) b last → Wrote out at (digits n) (set b last (48 + n % 10)) (last + 1)
+wrote-more n {out} {b} {at} {last} h f w = rw (digits-more n h) (wrote-then w (wrote-byte b last (48 + n % 10) (last-fits n h f w)))
+
+-- BYTES, copied one after the other
+pub record Copied (bytes old : List ℕ) (at : ℕ) (new : List ℕ) (i : ℕ) : Type 0 where
+  pub upto : i ≤ length bytes
+  pub wrote : Wrote old at (take i bytes) new (at + i)
+
+pub copied-start : (bytes old : List ℕ) (at : ℕ) → at + length bytes ≤ length old → Copied bytes old at old 0
+copied-start bytes old at h = record { upto = omega arith; wrote = rw (add-zero at) (wrote-none old at (omega arith)) }
+
+module _ {bytes old : List ℕ} {at : ℕ} {new : List ℕ} {i : ℕ} (fits : at + length bytes ≤ length old) (c : Copied bytes old at new i) where
+  pub copied-length : length new ≡ length old
+  copied-length = wrote-length (c .wrote)
+
+  pub copied-room : i < length bytes → at + i < length new
+  copied-room h = let e = copied-length in omega arith
+
+  pub copied-step : i < length bytes → Copied bytes old at (set new (at + i) (getD bytes i 0)) (i + 1)
+  copied-step h = record {
+    upto = omega arith;
+    wrote = rw (add-one i, take-suc bytes i 0 h, add-suc at i, ← add-one (at + i)) (wrote-then (c .wrote) (wrote-byte new (at + i) (getD bytes i 0) (copied-room h)));
+  }
+
+  pub copied-end : length bytes ≤ i → Wrote old at bytes new (at + i)
+  copied-end h = rw take-all at (c .wrote)
+
+-- A LINE, a number after the others
+pub ending-none : (others : ℕ) → others ≡ 0 → 10 ≡ ending others
+ending-none zero e = refl
+ending-none (suc n) e = absurd (omega arith)
+
+pub ending-some : (others : ℕ) → (others ≡ 0 → ⊥) → 32 ≡ ending others
+ending-some zero f = absurd (f refl)
+ending-some (suc n) f = refl
+
+-- the numbers of a lent slice
+abbrev pub Words : List ℕ → Type 0
+Words ns = (k : ℕ) → getD ns k 0 < 2 ^ 32
+
+pub short-digits : (n : ℕ) → n < 2 ^ 32 → length (digits n) ≤ 10
+short-digits n h = few-digits 9 n (omega arith)
+
+-- the loop: what is left gives the same as the whole, and no number takes more than eleven bytes
+pub record Lined (ns old : List ℕ) (at : ℕ) (new : List ℕ) (to i : ℕ) : Type 0 where
+  pub text : List ℕ
+  pub wrote : Wrote old at text new to
+  pub left : text ++ line (drop i ns) ≡ line ns
+  pub upto : i ≤ length ns
+  pub room : to ≤ at + 11 * i
+
+pub lined-start : (ns old : List ℕ) (at : ℕ) → at + 11 * length ns ≤ length old → Lined ns old at old at 0
+lined-start ns old at h = record { text = []; wrote = wrote-none old at (omega arith); left = refl; upto = omega arith; room = omega arith }
+
+module _ {ns old : List ℕ} {at : ℕ} {new : List ℕ} {to i : ℕ} (fits : at + 11 * length ns ≤ length old) (c : Lined ns old at new to i) where
+  pub lined-length : length new ≡ length old
+  lined-length = wrote-length (c .wrote)
+
+  pub lined-end : length ns ≤ i → Wrote old at (line ns) new to
+  unfolding line
+  lined-end h = let e : c .text ≡ line ns = sym (append-nil (c .text)) ∙ (rw (drop-of-length-le ns h) at (c .left)) in rw (← e) (c .wrote)
+
+  module _ (h : i < length ns) (l : getD ns i 0 < 2 ^ 32) where
+    -- there is room for one number more
+    pub lined-number : to + length (digits (getD ns i 0)) ≤ length new
+    lined-number = let e = lined-length in let r = c .room in let s = short-digits (getD ns i 0) l in omega arith
+
+    module _ {after : List ℕ} {end : ℕ} (w : Wrote new to (digits (getD ns i 0)) after end) where
+      -- and for the byte after it
+      pub lined-byte : end < length after
+      lined-byte =
+          let e = lined-length in
+          let f = wrote-length w in
+          let r = c .room in
+          let s = short-digits (getD ns i 0) l in
+          let g = w .end in
+          omega arith
+
+      pub lined-step : {b : ℕ} → b ≡ ending (length ns - (i + 1)) → Lined ns old at (set after end b) (end + 1) (i + 1)
+      unfolding line
+      lined-step e = rw e (record {
+        text = (c .text ++ digits (getD ns i 0)) ++ (ending (length ns - (i + 1)) ∷ []);
+        wrote = wrote-then (wrote-then (c .wrote) w) (wrote-byte after end (ending (length ns - (i + 1))) lined-byte);
+        left = rw (add-one i, append-assoc, append-assoc) (rw (drop-cons ns i 0 h, length-drop (suc i) ns) at (c .left));
+        upto = omega arith;
+        room = let s = short-digits (getD ns i 0) l in let g = w .end in let r = c .room in omega arith;
+      })
+
+-- A TABLE, a line after the others. Parts of a lent slice hold numbers too,
+words-drop : (n : ℕ) (ns : List ℕ) → Words ns → Words (drop n ns)
+words-drop n ns f k = rw (getD-drop n ns k 0) (f (n + k))
+
+words-take : (n : ℕ) (ns : List ℕ) → Words ns → Words (take n ns)
+words-take zero ns f k = omega arith
+words-take (suc n) [] f k = omega arith
+words-take (suc n) (x ∷ ns) f zero = f zero
+words-take (suc n) (x ∷ ns) f (suc k) = words-take n ns (λ j. f (suc j)) k
+
+-- and a line of them is short
+line-short : (ns : List ℕ) → Words ns → length (line ns) ≤ 11 * length ns
+unfolding line
+line-short [] f = omega arith
+line-short (n ∷ ns) f =
+    let s = short-digits n (f 0) in
+    let r = line-short ns (λ k. f (suc k)) in
+    simp length-append (omega arith)
+
+-- rows lie one after the other
+rows-apart : (w i rows : ℕ) → i < rows → w * i + w ≤ w * rows
+rows-apart w i rows h = rw (← mul-suc w i) (mul-le-mul-left w h)
+
+-- the loop: what is left gives the same as the whole, and no number takes more than eleven bytes
+pub record Tabled (ns : List ℕ) (w rows : ℕ) (old : List ℕ) (at : ℕ) (new : List ℕ) (to start i : ℕ) : Type 0 where
+  pub text : List ℕ
+  pub wrote : Wrote old at text new to
+  pub left : text ++ table w (rows - i) (drop start ns) ≡ table w rows ns
+  pub place : start ≡ w * i
+  pub upto : i ≤ rows
+  pub room : to ≤ at + 11 * start
+
+pub tabled-start : {ns : List ℕ} {w rows : ℕ} {old : List ℕ} {at : ℕ} → TableFits ns w rows old at → Tabled ns w rows old at old at 0 0
+tabled-start {ns} {w} {rows} {old} {at} f = record {
+  text = [];
+  wrote = wrote-none old at (let r = f .room in omega arith);
+  left = let z : rows - 0 ≡ rows = omega arith in rw z refl;
+  place = sym (mul-zero w);
+  upto = omega arith;
+  room = omega arith;
+}
+
+module _ {ns : List ℕ} {w rows : ℕ} {old : List ℕ} {at : ℕ} {new : List ℕ} {to start i : ℕ} (f : TableFits ns w rows old at) (c : Tabled ns w rows old at new to start i) where
+  pub tabled-length : length new ≡ length old
+  tabled-length = wrote-length (c .wrote)
+
+  pub tabled-end : rows ≤ i → Wrote old at (table w rows ns) new to
+  unfolding table
+  tabled-end h =
+      let z : rows - i ≡ 0 = omega arith in
+      let e : c .text ≡ table w rows ns = sym (append-nil (c .text)) ∙ (rw z at (c .left)) in
+      rw (← e) (c .wrote)
+
+  module _ (h : i < rows) where
+    -- the next row
+    pub tabled-row : start + w ≤ length ns
+    tabled-row = let a = rows-apart w i rows h in let p = c .place in let g = f .held in omega arith
+
+    part-length : length (part ns start (start + w)) ≡ w
+    part-length = let g = tabled-row in let d = length-drop start ns in simp length-take (omega arith)
+
+    pub tabled-fits : to + 11 * length (part ns start (start + w)) ≤ length new
+    tabled-fits =
+        let a = rows-apart w i rows h in
+        let p = c .place in
+        let r = c .room in
+        let g = f .room in
+        let l = tabled-length in
+        let n = part-length in
+        omega arith
+
+    pub tabled-step : {after : List ℕ} {next : ℕ} → Words ns → Wrote new to (line (part ns start (start + w))) after next → Tabled ns w rows old at after next (start + w) (i + 1)
+    unfolding table
+    tabled-step q v = record {
+      text = c .text ++ line (part ns start (start + w));
+      wrote = wrote-then (c .wrote) v;
+      left =
+          let k : rows - i ≡ suc (rows - (i + 1)) = omega arith in
+          let g : start + w - start ≡ w = omega arith in
+          rw (append-assoc, g, ← drop-drop w start ns) (rw k at (c .left));
+      place = let p = c .place in rw (add-one i, mul-suc w i) (omega arith);
+      upto = omega arith;
+      room =
+          let s = line-short (part ns start (start + w)) (words-take (start + w - start) (drop start ns) (words-drop start ns q)) in
+          let n = part-length in
+          let e = v .end in
+          let r = c .room in
+          omega arith;
+    }
+
+-- THE OUTPUTS. A number after a word:
+module _ {old : List ℕ} {at : ℕ} {word b : List ℕ} {m : ℕ} (n : ℕ) (h : n < 2 ^ 32) (w : Wrote old at word b m) where
+  pub number-fits : at + length word + 10 ≤ length old → m + length (digits n) ≤ length b
+  number-fits f = let s = short-digits n h in let e = w .end in let l = wrote-length w in omega arith
+
+  -- and a byte after it
+  pub byte-fits : {d : List ℕ} {e : ℕ} → at + length word + 11 ≤ length old → Wrote b m (digits n) d e → e < length d
+  byte-fits f v =
+      let s = short-digits n h in
+      let i = w .end in
+      let j = v .end in
+      let k = wrote-length w in
+      let l = wrote-length v in
+      omega arith
+
+-- a table of numbers is short
+table-short : (w k : ℕ) (ns : List ℕ) → Words ns → length (table w k ns) ≤ 11 * (w * k)
+unfolding table
+table-short w zero ns f = omega arith
+table-short w (suc k) ns f =
+    let s = line-short (take w ns) (words-take w ns f) in
+    let r = table-short w k (drop w ns) (words-drop w ns f) in
+    let l = length-take w ns in
+    rw (mul-suc w k) (simp length-append (omega arith))
+
+-- the counts are numbers
+pub head-words : (t r : ℕ) → t < 2 ^ 32 → r < 2 ^ 32 → Words (0 ∷ t ∷ r ∷ [])
+head-words t r h i zero = omega arith
+head-words t r h i (suc zero) = h
+head-words t r h i (suc (suc zero)) = i
+head-words t r h i (suc (suc (suc k))) = omega arith
+
+module _ {store : List ℕ} {triples : ℕ} {findings : List ℕ} {records : ℕ} {old : List ℕ} (f : AnswerFits store triples findings records old)
+    (h : triples < 2 ^ 32) (i : records < 2 ^ 32) {b : List ℕ} {m : ℕ} (w : Wrote old 0 (line (0 ∷ triples ∷ records ∷ [])) b m) where
+  pub triples-fit : TableFits store 3 triples b m
+  triples-fit = record {
+    held = f .stored;
+    room =
+        let s = line-short (0 ∷ triples ∷ records ∷ []) (head-words triples records h i) in
+        let e = w .end in
+        let l = wrote-length w in
+        let r = f .room in
+        omega arith;
+  }
+
+  pub findings-fit : {d : List ℕ} {n : ℕ} → Words store → Wrote b m (table 3 triples store) d n → TableFits findings 5 records d n
+  findings-fit q v = record {
+    held = f .found;
+    room =
+        let s = line-short (0 ∷ triples ∷ records ∷ []) (head-words triples records h i) in
+        let t = table-short 3 triples store q in
+        let e = w .end in
+        let g = v .end in
+        let k = wrote-length w in
+        let l = wrote-length v in
+        let r = f .room in
+        omega arith;
+  }
+
+  pub answer-whole : {d : List ℕ} {n : ℕ} {c : List ℕ} {last : ℕ} → Wrote b m (table 3 triples store) d n → Wrote d n (table 5 records findings) c last → Wrote old 0 (answer store triples findings records) c last
+  answer-whole u v = wrote-then w (wrote-then u v)

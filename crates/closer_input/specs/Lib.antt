@@ -1,0 +1,5 @@
+pub mod Decimal
+pub mod Input
+pub mod Output
+pub mod Contracts
+pub mod Cases

@@ -1,0 +1,38 @@
+-- What program closer prints. From document 01, 'Tried on the drums': "prints only "bad line" and the first such line's number, from 1,
+-- as "bad line 2" .. A refused run prints its number and two zeros .. print "0 9 0" (refusal, triples, findings), then s p o .. Findings
+-- would follow, five numbers a line"; and the names that it puts, "urn:t1 to urn:tN". Assumes nothing.
+use mathlib.Core.List.{List, [], _∷_, _++_}
+use Prim.Native.Nat.{ℕ, zero, suc}
+use lib.ListN.{length, take, drop}
+use Rattle.common.specs.Text.{text}
+use Rattle.closer_input.specs.Decimal.{digits}
+
+-- the byte after a number of a line: a space where others follow it, the line feed where none does
+abbrev pub ending : ℕ → ℕ
+ending zero = 10
+ending (suc others) = 32
+
+-- a line of numbers
+unfoldable pub line : List ℕ → List ℕ
+line [] = []
+line (n ∷ ns) = digits n ++ (ending (length ns) ∷ line ns)
+
+-- the first k rows of w numbers each, a line a row
+unfoldable pub table : ℕ → ℕ → List ℕ → List ℕ
+table w zero ns = []
+table w (suc k) ns = line (take w ns) ++ table w k (drop w ns)
+
+-- an accepted run
+abbrev pub answer : List ℕ → ℕ → List ℕ → ℕ → List ℕ
+answer store triples findings records = line (0 ∷ triples ∷ records ∷ []) ++ (table 3 triples store ++ table 5 records findings)
+
+-- a refused run
+abbrev pub refusal : ℕ → List ℕ
+refusal n = line (n ∷ 0 ∷ 0 ∷ [])
+
+abbrev pub bad-line : ℕ → List ℕ
+bad-line k = text "bad line " ++ (digits k ++ (10 ∷ []))
+
+-- the n-th named node that the program puts
+abbrev pub name : ℕ → List ℕ
+name n = text "urn:t" ++ digits n
