@@ -2,6 +2,7 @@
 //!
 //! Compared are the triples, the findings as a set after each record is put into the original's message text, the counts, the
 //! number of terms, and the sizes at which store and findings just suffice. Exit status 1 where there is a difference.
+//! ONLY=small or ONLY=large in the environment leaves the others out.
 
 mod support;
 
@@ -36,8 +37,10 @@ fn main() {
     let (n, seed) = support::number_and_seed("compare");
     let made_by_puts: Make = support::put_dictionary;
     let laid_out: Make = |model| Ok(support::laid_out_dictionary(model));
-    let differences = compare("small", n, |k| small(&mut Random::item(seed, k)), made_by_puts)
-        + compare("large", n / 100, |k| large(&mut Random::item(!seed, k)), laid_out);
+    let only = std::env::var("ONLY").unwrap_or_default();
+    let count = |name: &str, n: u64| if only.is_empty() || only == name { n } else { 0 };
+    let differences = compare("small", count("small", n), |k| small(&mut Random::item(seed, k)), made_by_puts)
+        + compare("large", count("large", n / 100), |k| large(&mut Random::item(!seed, k)), laid_out);
     std::process::exit(i32::from(differences > 0));
 }
 
