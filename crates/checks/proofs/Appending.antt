@@ -15,7 +15,7 @@ use Rattle.rows.proofs.Cases.{true-false}
 use Rattle.rows.proofs.Listed.{listed-more, listed-ext, length-listed}
 use Rattle.checks.specs.declared.Checked.{Checked}
 use Rattle.checks.specs.Findings.{set-finding, raised, Ready, Appended}
-use Rattle.checks.proofs.Counting.{count-le, count-at, five-snoc}
+use Rattle.checks.proofs.Counting.{five-le, five-snoc}
 
 -- findings are the same where their numbers are
 finding-eq : (x y : Finding) → x .check ≡ y .check → x .a ≡ y .a → x .b ≡ y .b → x .c ≡ y .c → x .d ≡ y .d → x ≡ y
@@ -73,10 +73,9 @@ module _ (f : List ℕ) (j : ℕ) (x : Finding) where
   records-put h = listed-more j (findingAt (set-finding f j x)) ∙ ap₂ (λ u v. u ++ (v ∷ [])) (listed-ext j (findingAt (set-finding f j x)) (findingAt f) put-before) (put-is h)
 
 -- a count can be raised
-pub count-few : {f : List ℕ} {a : Checked} → Ready f a → (k : ℕ) → 1 ≤ k → k ≤ 5 → getD (a .counts) (k - 1) 0 < 65536
-count-few {f} {a} r k p q =
-    let fs = finding-rows (a .n) f in
-    omega (arith, ap (λ c. getD c (k - 1) 0) (r .counts), count-at k fs p q, count-le k fs, length-listed (a .n) (findingAt f), r .room, r .few)
+pub count-few : {f : List ℕ} {a : Checked} → Ready f a → (i : ℕ) → getD (a .counts) i 0 < 65536
+count-few {f} {a} r i =
+    omega (arith, ap (λ c. getD c i 0) (r .counts), five-le i (finding-rows (a .n) f), length-listed (a .n) (findingAt f), r .room, r .few)
 
 -- THE RECORD IS APPENDED
 pub appended-one : {f : List ℕ} {a b : Checked} (x : Finding) → Ready f a → 1 ≤ x .check → x .check ≤ 5 → 5 * a .n + 5 ≤ length f → b .n ≡ a .n + 1 → b .full ≡ false → b .counts ≡ raised (a .counts) (x .check) → {f' : List ℕ} → f' ≡ set-finding f (a .n) x → Appended (λ y. y ≡ x) f a f' b

@@ -38,20 +38,18 @@ one-le k x = go (eqb (x .check) k)
     go true = omega arith
     go false = omega arith
 
-pub count-le : (k : ℕ) (xs : List Finding) → count-of k xs ≤ length xs
+count-le : (k : ℕ) (xs : List Finding) → count-of k xs ≤ length xs
 unfolding count-of
 count-le k [] = omega arith
 count-le k (x ∷ xs) = omega (arith, count-cons k x xs, one-le k x, count-le k xs)
 
--- the count of a check in the array of five
-pub count-at : (k : ℕ) (xs : List Finding) → 1 ≤ k → k ≤ 5 → getD (five-counts xs) (k - 1) 0 ≡ count-of k xs
-count-at zero xs a b = absurd (omega arith)
-count-at (suc zero) xs a b = refl
-count-at (suc (suc zero)) xs a b = refl
-count-at (suc (suc (suc zero))) xs a b = refl
-count-at (suc (suc (suc (suc zero)))) xs a b = refl
-count-at (suc (suc (suc (suc (suc zero))))) xs a b = refl
-count-at (suc (suc (suc (suc (suc (suc k)))))) xs a b = absurd (omega arith)
+pub five-le : (i : ℕ) (xs : List Finding) → getD (five-counts xs) i 0 ≤ length xs
+five-le zero xs = count-le 1 xs
+five-le (suc zero) xs = count-le 2 xs
+five-le (suc (suc zero)) xs = count-le 3 xs
+five-le (suc (suc (suc zero))) xs = count-le 4 xs
+five-le (suc (suc (suc (suc zero)))) xs = count-le 5 xs
+five-le (suc (suc (suc (suc (suc i))))) xs = omega arith
 
 -- A RECORD MORE raises the count of its check
 pub five-snoc : (xs : List Finding) (x : Finding) → 1 ≤ x .check → x .check ≤ 5 → five-counts (xs ++ (x ∷ [])) ≡ raised (five-counts xs) (x .check)

@@ -12,7 +12,7 @@ use rows::row;
 use rows::sort_rows;
 ghost use mathlib.Core.Path.{_≡_};
 ghost use mathlib.Core.Bool.{true, false};
-ghost use Prim.Native.Nat.{_+_, _-_, _*_, _≤_, _<_};
+ghost use Prim.Native.Nat.{ℕ, _+_, _-_, _*_, _≤_, _<_};
 ghost use lib.ListN.{length, getD};
 ghost use Rattle.common.specs.Triples.{triple, finding};
 ghost use Rattle.common.specs.Values.{triple-of};
@@ -239,7 +239,7 @@ fn put_finding(findings: &mut [u32], j: usize, x: Finding)
 
 // One more of check k.
 fn raise(counts: [u32; 5], k: u32) -> [u32; 5]
-    requires { ⌜ (1 ≤ k) × (k ≤ 5) × (getD counts (k - 1) 0 < 65536) ⌝ }
+    requires { ⌜ (1 ≤ k) × (k ≤ 5) × ((i : ℕ) → getD counts i 0 < 65536) ⌝ }
     ensures { λ r. ⌜ r ≡ raised counts k ⌝ }
 {
     let mut next = counts;

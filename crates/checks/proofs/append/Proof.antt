@@ -20,7 +20,7 @@ put-finding-requires : tie.Need-put-finding-requires
 put-finding-requires c κs = search needs
 
 raise-requires : tie.Need-raise-requires
-raise-requires c κs = ((c .before .before .before .before .before .before .before .pre) .1, (c .before .before .before .before .before .before .before .pre) .2, count-few ((c .before .before .before .before .before .before .before .pre) .0) _ ((c .before .before .before .before .before .before .before .pre) .1) ((c .before .before .before .before .before .before .before .pre) .2))
+raise-requires c κs = ((c .before .before .before .before .before .before .before .pre) .1, (c .before .before .before .before .before .before .before .pre) .2, count-few ((c .before .before .before .before .before .before .before .pre) .0))
 
 add-t7 : tie.Need-add-t7
 add-t7 c = search needs

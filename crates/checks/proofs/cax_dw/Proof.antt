@@ -15,7 +15,7 @@ make-triple-requires : tie.Need-make-triple-requires
 make-triple-requires c κs = search needs
 
 contains-requires : tie.Need-contains-requires
-contains-requires c κs = ((c .before .before .before .before .before .before .before .before .pre) .0, small-triple ((c .make-triple) .ensures) ((c .before .before .before .before .before .before .before .before .pre) .2 .s) (omega arith) ((c .before .before .before .before .before .before .before .before .pre) .1 .o))
+contains-requires c κs = ((c .before .before .before .before .before .before .before .before .pre) .0, small-triple ((c .make-triple) .ensures) (omega (arith, (c .before .before .before .before .before .before .before .before .pre) .1 .s, (c .before .before .before .before .before .before .before .before .pre) .1 .o, (c .before .before .before .before .before .before .before .before .pre) .2 .s, (c .before .before .before .before .before .before .before .before .pre) .2 .o)) (omega (arith, (c .before .before .before .before .before .before .before .before .pre) .1 .s, (c .before .before .before .before .before .before .before .before .pre) .1 .o, (c .before .before .before .before .before .before .before .before .pre) .2 .s, (c .before .before .before .before .before .before .before .before .pre) .2 .o)) (omega (arith, (c .before .before .before .before .before .before .before .before .pre) .1 .s, (c .before .before .before .before .before .before .before .before .pre) .1 .o, (c .before .before .before .before .before .before .before .before .pre) .2 .s, (c .before .before .before .before .before .before .before .before .pre) .2 .o)))
 
 returns-3 : tie.Need-returns-3
 returns-3 c = answers-iff (λ i. record { typed = (c .before .before .before .before .if1) .left; class = (c .before .before .before .before .before .before .before .before .before .pre) .3; other = i; nonzero = (c .before .before .if2) .left }) (λ w. w .other) (answers-found ((c .before .make-triple) .ensures) ((c .contains) .ensures))

@@ -1,4 +1,5 @@
 -- `checks::prp_pdw` meets its contract. Assumes nothing.
+use native.Mathlib.Omega.{arith}
 use Rattle.checks.proofs.Answering.{answers-no, answers-iff, answers-found, small-triple}
 use borrow.Author.Needs.{needs}
 use Rattle.checks.proofs.prp_pdw.Statement.{statement}
@@ -20,7 +21,7 @@ make-triple-requires : tie.Need-make-triple-requires
 make-triple-requires c κs = search needs
 
 contains-requires : tie.Need-contains-requires
-contains-requires c κs = ((c .before .before .before .before .before .before .before .before .before .before .before .pre) .0, small-triple ((c .make-triple) .ensures) ((c .before .before .before .before .before .before .before .before .before .before .before .pre) .2 .s) ((c .before .before .before .before .before .before .before .before .before .before .before .pre) .1 .o) ((c .before .before .before .before .before .before .before .before .before .before .before .pre) .2 .o))
+contains-requires c κs = ((c .before .before .before .before .before .before .before .before .before .before .before .pre) .0, small-triple ((c .make-triple) .ensures) (omega (arith, (c .before .before .before .before .before .before .before .before .before .before .before .pre) .1 .s, (c .before .before .before .before .before .before .before .before .before .before .before .pre) .1 .o, (c .before .before .before .before .before .before .before .before .before .before .before .pre) .2 .s, (c .before .before .before .before .before .before .before .before .before .before .before .pre) .2 .o)) (omega (arith, (c .before .before .before .before .before .before .before .before .before .before .before .pre) .1 .s, (c .before .before .before .before .before .before .before .before .before .before .before .pre) .1 .o, (c .before .before .before .before .before .before .before .before .before .before .before .pre) .2 .s, (c .before .before .before .before .before .before .before .before .before .before .before .pre) .2 .o)) (omega (arith, (c .before .before .before .before .before .before .before .before .before .before .before .pre) .1 .s, (c .before .before .before .before .before .before .before .before .before .before .before .pre) .1 .o, (c .before .before .before .before .before .before .before .before .before .before .before .pre) .2 .s, (c .before .before .before .before .before .before .before .before .before .before .before .pre) .2 .o)))
 
 returns-5 : tie.Need-returns-5
 returns-5 c = answers-iff (λ i. record { property = (c .before .before .before .before .before .before .before .before .before .before .before .before .pre) .3; other = i; nonzero-a = (c .before .before .before .before .before .before .before .before .if1) .left; nonzero-b = (c .before .before .before .before .before .before .if2) .left; nonzero-p = (c .before .before .before .before .if3) .left; nonzero-q = (c .before .before .if4) .left }) (λ w. w .other) (answers-found ((c .before .make-triple) .ensures) ((c .contains) .ensures))

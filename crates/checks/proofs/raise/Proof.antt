@@ -1,6 +1,6 @@
 -- `checks::raise` meets its contract. Assumes nothing.
-use mathlib.Core.Path.{sym, ap, subst}
-use Prim.Native.Nat.{ℕ, _+_, _<_}
+use mathlib.Core.Path.{ap}
+use Prim.Native.Nat.{ℕ, _+_}
 use native.Mathlib.Omega.{arith}
 use lib.ListN.{getD, set}
 use borrow.Author.Needs.{needs}
@@ -20,7 +20,7 @@ array-read-next : tie.Need-array-read-next
 array-read-next c = search needs
 
 add-next : tie.Need-add-next
-add-next c = omega (arith, subst (λ (i : ℕ). getD ((c .before .args) .counts) i 0 < 65536) (sym ((c .wide) .ensures)) ((c .before .pre) .2))
+add-next c = omega (arith, (c .before .pre) .2 (c .wide .result))
 
 mul-next-2 : tie.Need-mul-next-2
 mul-next-2 c = search needs
