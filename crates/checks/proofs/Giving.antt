@@ -10,8 +10,7 @@ use Rattle.common.specs.Triples.{Triple, Finding}
 use Rattle.rows.specs.Rows.{rowAt, Apart}
 use Rattle.rows.specs.Chains.{keys, Last, Chain}
 use Rattle.rows.specs.Store.{Good}
-use Rattle.rows.proofs.Cases.{true-false}
-use Rattle.rows.proofs.Numbers.{three}
+use Rattle.rows.proofs.Cases.{true-false, three}
 use Rattle.rows.proofs.Chain.{last-is}
 use Rattle.checks.specs.declared.CheckKind.{CheckKind}
 use Rattle.checks.specs.declared.CheckKind.the-variants.{NoCheck}

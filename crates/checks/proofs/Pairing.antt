@@ -129,11 +129,11 @@ module _ (l : List ℕ) (n : ℕ) where
   }
 
   pub found→given : {k a b c d : ℕ} → Found (graph-of (rows n l)) k a b c d → GivenByRows l n (finding k a b c d)
-  found→given (cax-dw {i = i} {c = c} {d = d} h j k z) = given-by CaxDw (in-rows→ k) (in-rows→ h) refl (record { typed = refl; class = refl; other = in-rows→ j; nonzero = z })
-  found→given (prp-irp h j z) = given-by PrpIrp (in-rows→ h) (in-rows→ j) (refl, refl) (record { property = refl; same = refl; nonzero = z })
-  found→given (prp-asyp h j k x y z) = given-by PrpAsyp (in-rows→ h) (in-rows→ j) (refl, refl) (record { property = refl; back = in-rows→ k; nonzero-p = x; nonzero-a = y; nonzero-b = z })
-  found→given (prp-pdw h j k w x y z) = given-by PrpPdw (in-rows→ h) (in-rows→ j) refl (record { property = refl; other = in-rows→ k; nonzero-a = w; nonzero-b = x; nonzero-p = y; nonzero-q = z })
-  found→given (cls-nothing2 h z) = given-by ClsNothing2 (in-rows→ h) (in-rows→ h) (refl, refl) (record { instance = refl; typed = refl; class = refl; nonzero = z })
+  found→given (cax-dw {i = i} {c = c} {d = d} h j k z) = given-by CaxDw (in-rows→ n l k) (in-rows→ n l h) refl (record { typed = refl; class = refl; other = in-rows→ n l j; nonzero = z })
+  found→given (prp-irp h j z) = given-by PrpIrp (in-rows→ n l h) (in-rows→ n l j) (refl, refl) (record { property = refl; same = refl; nonzero = z })
+  found→given (prp-asyp h j k x y z) = given-by PrpAsyp (in-rows→ n l h) (in-rows→ n l j) (refl, refl) (record { property = refl; back = in-rows→ n l k; nonzero-p = x; nonzero-a = y; nonzero-b = z })
+  found→given (prp-pdw h j k w x y z) = given-by PrpPdw (in-rows→ n l h) (in-rows→ n l j) refl (record { property = refl; other = in-rows→ n l k; nonzero-a = w; nonzero-b = x; nonzero-p = y; nonzero-q = z })
+  found→given (cls-nothing2 h z) = given-by ClsNothing2 (in-rows→ n l h) (in-rows→ n l h) (refl, refl) (record { instance = refl; typed = refl; class = refl; nonzero = z })
 
   -- row j is the triple of these ids
   there-is : {x y z : ℕ} (j : ℕ) → j < n → rowAt l j .s ≡ x → rowAt l j .p ≡ y → rowAt l j .o ≡ z → In (triple x y z) (rows n l)
