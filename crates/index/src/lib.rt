@@ -6,6 +6,7 @@ mod entry;
 mod hash;
 mod initial;
 mod inner;
+mod valid;
 mod values;
 
 use bytes::clear_bytes;

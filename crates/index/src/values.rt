@@ -39,3 +39,9 @@ pub struct Digest {
     pub chain: usize,
     pub bucket: usize,
 }
+
+// Whether entries are as puts leave them, and where the bytes of the last of them end.
+pub struct Checked {
+    pub ok: bool,
+    pub end: usize,
+}

@@ -1,0 +1,95 @@
+// The test for a broken dictionary. It goes over the table and the arena once: the entries are scanned from the first, as if each term
+// were put again, and a hash of the terms tells whether one came before.
+use crate::entry::names;
+use crate::hash::digest;
+use crate::values::Checked;
+ghost use mathlib.Core.Path.{_≡_};
+ghost use mathlib.Core.Bool.{true, false};
+ghost use Prim.Native.Nat.{_+_, _*_, _≤_, _<_};
+ghost use lib.ListN.{length};
+ghost use Rattle.index.specs.Terms.{term};
+ghost use Rattle.index.specs.Entries.{length-of, kind-of, Entry-fits};
+ghost use Rattle.index.specs.Scanning.{Hashed, Seen, Seekable, linked, Scanning, Checked-entry};
+
+// Whether one of the first k entries names the term, whose bucket is given.
+fn seen(
+    table: &[u32],
+    arena: &[u8],
+    hash: &[u32],
+    k: usize,
+    kind: u32,
+    bytes: &[u8],
+    bucket: usize,
+) -> bool
+    requires { ⌜ Seekable (now table) (now arena) (now hash) k (term kind (now bytes)) bucket ⌝ }
+    ensures { λ r. ⌜ Seen (now (table .entry)) (now (arena .entry)) k (term kind (now (bytes .entry))) r ⌝ }
+{
+    let mut cur = hash[bucket] as usize;
+    while cur != 0 {
+        if names(table, arena, cur - 1, kind, bytes) {
+            return true;
+        }
+        cur = hash[65536 + (cur - 1)] as usize;
+    }
+    false
+}
+
+// Entry k becomes the first of its bucket.
+fn link(hash: &mut [u32], bucket: usize, k: usize)
+    requires { ⌜ (length (now hash) ≡ 131072) × (bucket < 65536) × (k < 65536) ⌝ }
+    ensures { λ _. ⌜ now (hash .exit) ≡ linked (now (hash .entry)) bucket k ⌝ }
+{
+    let first = hash[bucket];
+    hash[65536 + k] = first;
+    hash[bucket] = (k + 1) as u32;
+}
+
+// Whether entry k is as a put leaves it behind the others; if so it is entered in the heads and in the hash.
+fn check_entry(
+    table: &[u32],
+    arena: &[u8],
+    heads: &mut [u32],
+    hash: &mut [u32],
+    k: usize,
+    at: usize,
+) -> Checked
+    requires { ⌜ Scanning (now table) (now arena) (now heads) (now hash) k at × (64 ≤ length (now heads)) ⌝ }
+    ensures { λ r. ⌜ Checked-entry (now (table .entry)) (now (arena .entry)) (now (heads .exit)) (now (hash .exit)) k (r .ok) (r .end) ⌝ }
+{
+    let entry = 64 + 4 * k;
+    let len = table[entry + 1] as usize;
+    let kind = table[entry + 2];
+    if table[entry] as usize != at {
+        return broken();
+    }
+    if 4096 < len {
+        return broken();
+    }
+    if arena.len() - at < len {
+        return broken();
+    }
+    if kind < 1 {
+        return broken();
+    }
+    if 3 < kind {
+        return broken();
+    }
+    let end = at + len;
+    let d = digest(kind, &arena[at..end]);
+    let chain = d.chain;
+    if table[entry + 3] != heads[chain] {
+        return broken();
+    }
+    if seen(table, arena, hash, k, kind, &arena[at..end], d.bucket) {
+        return broken();
+    }
+    heads[chain] = k as u32;
+    link(hash, d.bucket, k);
+    Checked { ok: true, end }
+}
+
+fn broken() -> Checked
+    ensures { λ r. ⌜ r .ok ≡ false ⌝ }
+{
+    Checked { ok: false, end: 0 }
+}
