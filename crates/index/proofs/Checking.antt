@@ -3,7 +3,7 @@ use mathlib.Core.Path.{_≡_, sym, _∙_, ap, subst}
 use mathlib.Core.Logic.{_≢_}
 use mathlib.Core.Bool.{Bool, true, false}
 use mathlib.Core.List.{List}
-use Prim.Native.Nat.{ℕ, _+_, _-_, _≤_, _<_}
+use Prim.Native.Nat.{ℕ, _+_, _*_, _-_, _≤_, _<_}
 use native.Mathlib.Omega.{arith}
 use lib.Dec.{T}
 use lib.ListN.{length, getD, take, drop, set}
@@ -14,8 +14,8 @@ use Rattle.index.specs.Layout.{dict, chain, heads}
 use Rattle.index.specs.Dictionary.{short, valid}
 use Rattle.index.specs.Entries.{start-of, length-of, kind-of, next-of, entry-term}
 use Rattle.index.specs.Digest.{bucket, digest-of}
-use Rattle.index.specs.Scanning.{Scanned, Hashed, linked, Seen, Seekable, Scanning, Checked-entry}
-use Rattle.index.proofs.Digests.{bucket-below}
+use Rattle.index.specs.Scanning.{Scanned, Hashed, linked, Seen, Seekable, Scanning, Checked-entry, Checked-all}
+use Rattle.index.proofs.Digests.{bucket-below, digest-bucket}
 use Rattle.index.proofs.Reading.{entry}
 use Rattle.index.proofs.Hashing.{hashed-more}
 use Rattle.index.proofs.Scanning.{scanned-room, scanned-limits, scanned-fits, Tested, scanned-more}
@@ -87,3 +87,37 @@ module _ {table arena heads hash : List ℕ} {k at : ℕ} (s : Scanning table ar
           fresh = λ j l p. w .no z j l (p ∙ sym r);
           room = room;
         }
+
+-- THE START'S ENTRIES, entered in the hash
+pub own-part : (table arena : List ℕ) (k : ℕ) → term (kind-of table k) (take (start-of table k + length-of table k - start-of table k) (drop (start-of table k) arena)) ≡ entry-term table arena k
+own-part table arena k = let q : start-of table k + length-of table k - start-of table k ≡ length-of table k = omega arith in ap (λ (n : ℕ). term (kind-of table k) (take n (drop (start-of table k) arena))) q
+
+pub record Entered (table arena hash : List ℕ) (k : ℕ) : Type 0 where
+  pub within : k ≤ 31
+  pub hashed : Hashed table arena hash k
+
+pub entered-more : {table arena hash hash' : List ℕ} {k : ℕ} (u : Term) (d : Digest) → Entered table arena hash k → k < 31 → u .kind < 4294967296 → u ≡ entry-term table arena k → d ≡ digest-of u → hash' ≡ linked hash (d .bucket) k → Entered table arena hash' (k + 1)
+entered-more {table} {arena} {hash} {hash'} {k} u d s h l r f e = record {
+  within = omega arith;
+  hashed = subst (λ (x : List ℕ). Hashed table arena x (k + 1)) (sym e) (hashed-more (s .hashed) (digest-bucket u l f) (omega arith) (sym (ap (λ (x : Digest). x .bucket) f ∙ ap bucket r)));
+}
+
+-- ALL ENTRIES
+pub record Scan-state (table arena heads₀ heads hash : List ℕ) (n k at : ℕ) : Type 0 where
+  pub within : k ≤ n
+  pub scanned : Scanned table arena heads k at
+  pub hashed : Hashed table arena hash k
+  pub heads-long : length heads ≡ length heads₀
+
+module _ {table arena heads₀ heads hash : List ℕ} {n k at : ℕ} (w : Scan-state table arena heads₀ heads hash n k at) (h : k < n) where
+  pub scan-entry : 64 + 4 * n ≤ length table → Scanning table arena heads hash k at
+  scan-entry e = record { scanned = w .scanned; hashed = w .hashed; entry = omega arith }
+
+  pub scan-more : {heads' hash' : List ℕ} {ok : Bool} {end : ℕ} → Checked-entry table arena heads' hash' k ok end → ok ≡ true → length heads' ≡ length heads → Scan-state table arena heads₀ heads' hash' n (k + 1) end
+  scan-more c e l = let (a, b) = c .yes e in record { within = omega arith; scanned = a; hashed = b; heads-long = l ∙ w .heads-long }
+
+  pub scan-broken : {heads' hash' : List ℕ} {ok ok' : Bool} {end end' : ℕ} → Checked-entry table arena heads' hash' k ok end → ok ≡ false → ok' ≡ false → Checked-all table arena heads' n ok' end'
+  scan-broken c e f = record { yes = λ p. true-false (sym p ∙ f); no = λ _. c .no e n h }
+
+pub scan-end : {table arena heads₀ heads hash : List ℕ} {n k at : ℕ} → Scan-state table arena heads₀ heads hash n k at → n ≤ k → Checked-all table arena heads n true at
+scan-end {table} {arena} {heads₀} {heads} {hash} {n} {k} {at} w h = record { yes = λ _. let q : k ≡ n = omega (arith, w .within) in subst (λ (x : ℕ). Scanned table arena heads x at) q (w .scanned); no = λ p. true-false p }

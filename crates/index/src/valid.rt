@@ -1,15 +1,23 @@
 // The test for a broken dictionary. It goes over the table and the arena once: the entries are scanned from the first, as if each term
 // were put again, and a hash of the terms tells whether one came before.
+use crate::bytes::same_bytes;
+use crate::bytes::same_numbers;
+use crate::bytes::zero_bytes;
+use crate::bytes::zero_numbers;
 use crate::entry::names;
 use crate::hash::digest;
+use crate::initial::enter_all;
+use crate::initial::refusal;
 use crate::values::Checked;
+use crate::values::Counters;
 ghost use mathlib.Core.Path.{_≡_};
 ghost use mathlib.Core.Bool.{true, false};
 ghost use Prim.Native.Nat.{_+_, _*_, _≤_, _<_};
-ghost use lib.ListN.{length};
+ghost use lib.ListN.{length, replicate};
 ghost use Rattle.index.specs.Terms.{term};
-ghost use Rattle.index.specs.Entries.{length-of, kind-of, Entry-fits};
-ghost use Rattle.index.specs.Scanning.{Hashed, Seen, Seekable, linked, Scanning, Checked-entry};
+ghost use Rattle.index.specs.Dictionary.{valid};
+ghost use Rattle.index.specs.Values.{contents};
+ghost use Rattle.index.specs.Scanning.{Scanned, Hashed, Seen, Seekable, linked, Scanning, Checked-entry, Scannable, Checked-all, Fresh-start, Begins};
 
 // Whether one of the first k entries names the term, whose bucket is given.
 fn seen(
@@ -92,4 +100,39 @@ fn broken() -> Checked
     ensures { λ r. ⌜ r .ok ≡ false ⌝ }
 {
     Checked { ok: false, end: 0 }
+}
+
+// Enters the start's entries in the hash.
+fn hash_start(table: &[u32], arena: &[u8], hash: &mut [u32], heads: &[u32])
+    requires { ⌜ Scanned (now table) (now arena) (now heads) 31 1325 × Hashed (now table) (now arena) (now hash) 0 ⌝ }
+    ensures { λ _. ⌜ Hashed (now (table .entry)) (now (arena .entry)) (now (hash .exit)) 31 ⌝ }
+{
+    let mut k = 0;
+    while k < 31 {
+        let entry = 64 + 4 * k;
+        let start = table[entry] as usize;
+        let end = start + table[entry + 1] as usize;
+        let bucket = digest(table[entry + 2], &arena[start..end]).bucket;
+        link(hash, bucket, k);
+        k += 1;
+    }
+}
+
+// Whether all entries behind the start's are as puts leave them, and where their bytes end.
+fn scan(table: &[u32], arena: &[u8], heads: &mut [u32], hash: &mut [u32], terms: usize) -> Checked
+    requires { ⌜ Scannable (now table) (now arena) (now heads) (now hash) terms ⌝ }
+    ensures { λ r. ⌜ Checked-all (now (table .entry)) (now (arena .entry)) (now (heads .exit)) terms (r .ok) (r .end) ⌝ }
+{
+    let mut at = 1325;
+    let mut k = 31;
+    while k < terms {
+        let next = check_entry(table, arena, heads, hash, k, at);
+        if next.ok {
+            at = next.end;
+            k += 1;
+            continue;
+        }
+        return broken();
+    }
+    Checked { ok: true, end: at }
 }
