@@ -20,5 +20,6 @@ pub mod Naming
 pub mod Scanning
 pub mod Refusing
 pub mod Checking
+pub mod Validity
 pub mod Looking
 pub mod ContainerTerms

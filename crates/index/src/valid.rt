@@ -136,3 +136,31 @@ fn scan(table: &[u32], arena: &[u8], heads: &mut [u32], hash: &mut [u32], terms:
     }
     Checked { ok: true, end: at }
 }
+
+// Whether the table and the arena begin with the entries and the bytes of a fresh dictionary.
+fn begins_fresh(table: &[u32], arena: &[u8], fresh: &[u32], iris: &[u8]) -> bool
+    requires { ⌜ Fresh-start (now table) (now arena) (now fresh) (now iris) ⌝ }
+    ensures { λ r. ⌜ Begins (now (table .entry)) (now (arena .entry)) (now (fresh .entry)) r ⌝ }
+{
+    if same_numbers(&table[64..188], &fresh[64..188]) {
+        return same_bytes(&arena[0..1325], iris);
+    }
+    false
+}
+
+// Whether the counters, the heads and the unused parts are those of the entries scanned.
+fn ends_so(table: &[u32], arena: &[u8], counters: Counters, heads: &[u32], used: usize) -> bool
+    requires { ⌜ Scanned (now table) (now arena) (now heads) (counters .terms) used × (64 ≤ length (now heads)) ⌝ }
+    ensures { λ r. ⌜ r ≡ valid (contents (now (table .entry)) (now (arena .entry)) counters) ⌝ }
+{
+    if used != counters.used as usize {
+        return false;
+    }
+    if same_numbers(&table[0..64], &heads[0..64]) {
+        let rest = 64 + 4 * (counters.terms as usize);
+        if zero_numbers(&table[rest..]) {
+            return zero_bytes(&arena[used..]);
+        }
+    }
+    false
+}
