@@ -10,15 +10,16 @@ use lib.ListN.{length, take, drop, replicate, length-append, length-drop, take-a
 use lib.Seq.{take-at, drop-at, drop-drop, take-append-add}
 use Rattle.index.specs.Terms.{Term, start-terms}
 use Rattle.index.specs.Layout.{Dict, dict, chain, all-bytes, size, front, heads, entries, all-heads, all-entries, span, layout, read, decode}
-use Rattle.index.specs.Dictionary.{same-row, holdable, valid}
+use Rattle.index.specs.Dictionary.{same-row, start-refusal, holdable, valid}
+use Rattle.index.specs.Starting.{Blank}
 use Rattle.index.specs.Scanning.{named, Scanned, Fresh-start, Begins}
 use Rattle.index.proofs.Choice.{is-false, told-true, told-false, same-test}
 use Rattle.index.proofs.Equality.{same-row→, same-rows}
 use Rattle.index.proofs.Rows.{rest-part}
 use Rattle.index.proofs.Decoding.{length-span, read-all, length-all-entries, length-all-bytes}
 use Rattle.index.proofs.Holding.{holds→, holds←, holds-start, valid-layout, valid→, start-fits→}
-use Rattle.index.proofs.Reachable.{refusal-none}
-use Rattle.index.proofs.Reading.{bytes-used}
+use Rattle.index.proofs.Reachable.{no-refusal, refusal-none}
+use Rattle.index.proofs.Reading.{held, bytes-used, lengths}
 use Rattle.index.proofs.Naming.{named-length}
 use Rattle.index.proofs.Checking.{true-false}
 
@@ -202,3 +203,17 @@ module _ {table arena heads : List ℕ} {n at : ℕ} (s : Scanned table arena he
 pub fresh-room : {table arena fresh iris : List ℕ} → Fresh-start table arena fresh iris → (188 ≤ length table) × (1325 ≤ length arena) × (length fresh ≡ 188) × (length iris ≡ 1325)
 unfolding layout start-terms span heads entries
 fresh-room {table} {arena} f = let (s, r) = refusal-none (length table) (length arena) (f .accepted) in let (a, b) = start-fits→ (length table) (length arena) r in (a, b, ap (λ (l : List ℕ). length l) (f .entries), ap (λ (l : List ℕ). length l) (f .bytes))
+
+-- THE TESTS BEFORE
+pub blank-fresh : Blank (replicate 188 0) (replicate 1325 0)
+blank-fresh = record { room = record { entries = omega arith; table-limit = omega arith; bytes = omega arith; arena-limit = omega arith }; table-zero = refl; arena-zero = refl }
+
+module _ (d : Dict) where
+  pub other-sizes : {r : ℕ} → r ≡ start-refusal (length (d .table)) (length (d .arena)) → r ≢ 0 → false ≡ valid d
+  other-sizes e n = is-false (valid d) (λ v. let h = held d v in n (e ∙ sym (no-refusal (length (d .table)) (length (d .arena)) (h .sizes) (h .starts))))
+
+  pub few-terms : d .terms < 31 → false ≡ valid d
+  few-terms h = is-false (valid d) (λ v. omega (arith, lengths d v .some))
+
+  pub many-terms : length (d .table) < 64 + 4 * d .terms → false ≡ valid d
+  many-terms h = is-false (valid d) (λ v. omega (arith, lengths d v .entries))

@@ -164,3 +164,31 @@ fn ends_so(table: &[u32], arena: &[u8], counters: Counters, heads: &[u32], used:
     }
     false
 }
+
+// The test, with a hash of zeros.
+fn is_valid_by(table: &[u32], arena: &[u8], counters: Counters, hash: &mut [u32]) -> bool
+    requires { ⌜ (length (now hash) ≡ 131072) × (now hash ≡ replicate 131072 0) ⌝ }
+    ensures { λ r. ⌜ r ≡ valid (contents (now (table .entry)) (now (arena .entry)) counters) ⌝ }
+{
+    let terms = counters.terms as usize;
+    if refusal(table.len(), arena.len()) != 0 {
+        return false;
+    }
+    if terms < 31 {
+        return false;
+    }
+    if table.len() < 64 + 4 * terms {
+        return false;
+    }
+    let mut heads = [0u32; 188];
+    let mut iris = [0u8; 1325];
+    enter_all(&mut heads, &mut iris);
+    if begins_fresh(table, arena, &heads, &iris) {
+        hash_start(table, arena, hash, &heads);
+        let all = scan(table, arena, &mut heads, hash, terms);
+        if all.ok {
+            return ends_so(table, arena, counters, &heads, all.end);
+        }
+    }
+    false
+}
