@@ -192,3 +192,11 @@ fn is_valid_by(table: &[u32], arena: &[u8], counters: Counters, hash: &mut [u32]
     }
     false
 }
+
+// Whether a sequence of puts after a start leaves these contents.
+pub fn is_valid(table: &[u32], arena: &[u8], counters: Counters) -> bool
+    ensures { λ r. ⌜ r ≡ valid (contents (now (table .entry)) (now (arena .entry)) counters) ⌝ }
+{
+    let mut hash = [0u32; 131072];
+    is_valid_by(table, arena, counters, &mut hash)
+}
