@@ -12,6 +12,7 @@ pub mod Distinct
 pub mod Appending
 pub mod Reading
 pub mod Starting
+pub mod Words
 pub mod Walking
 pub mod Finding
 pub mod Putting

@@ -45,3 +45,9 @@ pub struct Checked {
     pub ok: bool,
     pub end: usize,
 }
+
+// Where a name ends, and where the next begins.
+pub struct Word {
+    pub end: usize,
+    pub next: usize,
+}
