@@ -24,3 +24,4 @@ pub mod Checking
 pub mod Validity
 pub mod Looking
 pub mod ContainerTerms
+pub mod Running

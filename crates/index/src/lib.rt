@@ -25,6 +25,7 @@ pub use values::Counters;
 pub use values::Located;
 pub use values::Put;
 pub use values::PutNext;
+pub use values::RunTerms;
 pub use values::Started;
 ghost use mathlib.Core.Path.{_≡_};
 ghost use Rattle.index.specs.Terms.{term};

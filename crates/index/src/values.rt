@@ -26,6 +26,15 @@ pub struct PutNext {
     pub counters: Counters,
 }
 
+// The ids of the three terms that a run puts, with the counters as they are afterwards.
+pub struct RunTerms {
+    pub number: u32,
+    pub property: Id,
+    pub membership: Id,
+    pub member: Id,
+    pub counters: Counters,
+}
+
 // Where a term lies in the arena, and its kind.
 pub struct Located {
     pub number: u32,
