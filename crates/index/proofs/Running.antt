@@ -12,18 +12,18 @@ use Rattle.index.specs.declared.values.Counters.{Counters}
 use Rattle.common.specs.Triples.{In, here, there, if, Distinct}
 use Rattle.common.proofs.Lists.{in-nil, and→}
 use Rattle.index.specs.Terms.{Term, property-term, membership-term, member-term, run-terms}
-use Rattle.index.specs.Layout.{Dict, size, layout, decode}
+use Rattle.index.specs.Layout.{Dict, sum, size, layout, decode}
 use Rattle.index.specs.Dictionary.{same-term, place-from, place-of, id-of, kind-known, short, roomy, Put-answer, reckon-put, Brought, full, brought, if-zero, bring, valid}
 use Rattle.index.specs.Calls.{put-result, put-laid, put-gives, run-terms-result, run-terms-laid, run-terms-give}
 use Rattle.index.specs.Entries.{id-below}
-use Rattle.index.specs.Running.{count-at, counted, is-brought}
+use Rattle.index.specs.Running.{count-at, counted, Countable, is-brought}
 use Rattle.index.proofs.Choice.{if-no, is-true, is-false, decide-bool}
 use Rattle.index.proofs.Equality.{same-term→}
 use Rattle.index.proofs.Decoding.{size-append}
 use Rattle.index.proofs.Holding.{Added, put-cases, Fits, Holds, holds-fits, holds-put, valid-layout, valid→}
 use Rattle.index.proofs.Reachable.{on-layout, put-valid}
 use Rattle.index.proofs.Distinct.{absent→, in-well}
-use Rattle.index.proofs.Reading.{held, count, bytes-used}
+use Rattle.index.proofs.Reading.{held, count, bytes-used, lengths}
 use Rattle.index.proofs.Walking.{index-there}
 use Rattle.index.proofs.Putting.{reckon-10, reckon-11, reckon-held, reckon-7, reckon-new, room-in, found-none, found-some}
 use Rattle.index.proofs.Checking.{true-false}
@@ -196,6 +196,26 @@ counted-below ts t c = go (place-of t ts)
     go : (o : Option ℕ) → (count-at o t c .terms ≤ c .terms + 1) × (count-at o t c .used ≤ c .used + length (t .bytes))
     go (some i) = (omega arith, omega arith)
     go none = (omega arith, omega arith)
+
+-- what counting needs, where at most two were counted
+pub countable : (d : Dict) → T (valid d) → (iri : List ℕ) (sum : Counters) → length iri ≤ 4096 → sum .terms ≤ d .terms + 2 → sum .used ≤ d .used + 200 → Countable d iri sum
+countable d v iri sum s a b = let l = lengths d v in record { unbroken = v; short = s; terms = omega (arith, l .few); used = omega (arith, l .bytes, l .arena) }
+
+-- after one, and after two
+module _ (d : Dict) (t : Term) {c₁ : Counters} (e : c₁ ≡ counted (decode d) t (record { terms = d .terms; used = d .used })) where
+  pub counted-one : length (t .bytes) ≤ 100 → (c₁ .terms ≤ d .terms + 2) × (c₁ .used ≤ d .used + 200)
+  counted-one h = let b = counted-below (decode d) t (record { terms = d .terms; used = d .used }) in (omega (arith, b .0, ap (λ (x : Counters). x .terms) e), omega (arith, b .1, ap (λ (x : Counters). x .used) e))
+
+  pub counted-two : (u : Term) {c₂ : Counters} → c₂ ≡ counted (decode d) u c₁ → length (t .bytes) ≤ 100 → length (u .bytes) ≤ 100 → (c₂ .terms ≤ d .terms + 2) × (c₂ .used ≤ d .used + 200)
+  counted-two u f h k =
+      let b = counted-below (decode d) t (record { terms = d .terms; used = d .used }) in
+      let g = counted-below (decode d) u c₁ in
+      (omega (arith, b .0, g .0, ap (λ (x : Counters). x .terms) e, ap (λ (x : Counters). x .terms) f), omega (arith, b .1, g .1, ap (λ (x : Counters). x .used) e, ap (λ (x : Counters). x .used) f))
+
+-- all three
+pub counted-three : (ts : List Term) (c : Counters) {c₁ c₂ c₃ : Counters} → c₁ ≡ counted ts property-term c → c₂ ≡ counted ts membership-term c₁ → c₃ ≡ counted ts member-term c₂ → c₃ ≡ count-all ts run-terms c
+unfolding run-terms
+counted-three ts c e f g = g ∙ ap (counted ts member-term) (f ∙ ap (counted ts membership-term) e)
 
 -- WHETHER THE THREE FIT
 module _ (d : Dict) (v : T (valid d)) (c : Counters) (e : c ≡ count-all (decode d) run-terms (record { terms = d .terms; used = d .used })) where

@@ -6,6 +6,7 @@ mod entry;
 mod hash;
 mod initial;
 mod inner;
+mod run;
 mod valid;
 mod values;
 
