@@ -1,5 +1,5 @@
 -- Choices and tests whose outcome is known. Assumes nothing.
-use mathlib.Core.Path.{_≡_, refl, sym, subst}
+use mathlib.Core.Path.{_≡_, refl, sym, _∙_, subst}
 use mathlib.Core.Logic.{_⊎_, inl, inr}
 use mathlib.Core.Bool.{Bool, true, false}
 use lib.Dec.{T}
@@ -42,3 +42,8 @@ told-false b e t = subst T (sym e) t
 pub decide-bool : (b : Bool) → T b ⊎ (T b → ⊥)
 decide-bool true = inl tt
 decide-bool false = inr (λ h. h)
+
+-- two tests that hold together are one
+pub same-test : (r b c : Bool) → r ≡ b → (T b → T c) → (T c → T b) → r ≡ c
+same-test r true c e f g = e ∙ is-true c (f tt)
+same-test r false c e f g = e ∙ is-false c g

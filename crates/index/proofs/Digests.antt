@@ -55,3 +55,10 @@ hash-below h (b ∷ bs) l = hash-below ((h * 2654435761 + b) % 4294967296) bs (o
 
 pub bucket-below : (t : Term) → t .kind < 4294967296 → bucket t < 65536
 bucket-below t h = let q = hash-below (t .kind) (t .bytes) h in omega arith
+
+-- a digest's chain is below 64, and its bucket below 65,536
+pub chain-below : (t : Term) {d : Digest} → d ≡ digest-of t → d .chain < 64
+chain-below t e = omega (arith, ap (λ (x : Digest). x .chain) e)
+
+pub digest-bucket : (t : Term) {d : Digest} → t .kind < 4294967296 → d ≡ digest-of t → d .bucket < 65536
+digest-bucket t h e = omega (arith, ap (λ (x : Digest). x .bucket) e, bucket-below t h)

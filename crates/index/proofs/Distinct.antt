@@ -112,7 +112,7 @@ direct← tl al ts h =
     record { sizes = h .sizes; more = h .more; whole = h .whole; well = w; fresh = n; fits = holds-fits tl al ts h }
 
 -- EVERY TERM THAT CAN BE HELD has a kind from 1 to 3 and at most 4,096 bytes
-abbrev all-well : List Term → Bool
+abbrev pub all-well : List Term → Bool
 all-well [] = true
 all-well (t ∷ ts) = (kind-known t && short t) && all-well ts
 
@@ -120,7 +120,7 @@ start-well : T (all-well start-terms)
 unfolding start-terms
 start-well = tt
 
-in-well : (ts : List Term) → T (all-well ts) → (t : Term) → In t ts → T (kind-known t) × T (short t)
+pub in-well : (ts : List Term) → T (all-well ts) → (t : Term) → In t ts → T (kind-known t) × T (short t)
 in-well [] h t i = absurd (in-nil i)
 in-well (u ∷ ts) h t i = go (in-cons i) (in-well ts (and→ (kind-known u && short u) (all-well ts) h .1) t)
   where

@@ -1,5 +1,5 @@
 -- The tests of equality of rows, terms and contents say what they seem to say. Assumes nothing.
-use mathlib.Core.Path.{_≡_, refl, ap₂}
+use mathlib.Core.Path.{_≡_, refl, ap₂, subst}
 use mathlib.Core.Bool.{Bool, true, false, _&&_}
 use mathlib.Core.List.{List, [], _∷_}
 use Prim.Native.Nat.{ℕ}
@@ -54,3 +54,7 @@ same-dict→ d e h =
     let ec = same-row→ (d .table) (e .table) c in
     let eg = same-row→ (d .arena) (e .arena) g in
     λ i. record { table = ec i; arena = eg i; terms = ea i; used = eb i }
+
+-- equal rows pass the test
+pub same-rows : {r s : List ℕ} → r ≡ s → T (same-row r s)
+same-rows {r} e = subst (λ (x : List ℕ). T (same-row r x)) e (same-row-refl r)

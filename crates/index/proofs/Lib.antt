@@ -12,6 +12,7 @@ pub mod Distinct
 pub mod Appending
 pub mod Reading
 pub mod Starting
+pub mod Words
 pub mod Walking
 pub mod Finding
 pub mod Putting
@@ -19,5 +20,8 @@ pub mod Hashing
 pub mod Naming
 pub mod Scanning
 pub mod Refusing
+pub mod Checking
+pub mod Validity
 pub mod Looking
 pub mod ContainerTerms
+pub mod Running

@@ -5,7 +5,6 @@ use Prim.Native.Nat.{ℕ, _+_, _-_, _≤_, _<_}
 use native.Mathlib.Omega.{arith}
 use lib.Dec.{T, ltb, ltb→lt, lt→ltb}
 use lib.ListN.{length, take, drop}
-use Rattle.common.specs.Start.{start}
 use Rattle.index.specs.Terms.{Term}
 use Rattle.index.specs.Layout.{Dict, decode}
 use Rattle.index.specs.Dictionary.{lookup-answer, term-of, reckon-lookup, valid}
@@ -13,7 +12,7 @@ use Rattle.index.specs.Calls.{lookup-gives}
 use Rattle.index.specs.Entries.{start-of, length-of, kind-of}
 use Rattle.index.specs.Values.{Locates}
 use Rattle.index.proofs.Choice.{if-yes, if-no}
-use Rattle.index.proofs.Reachable.{lookup-valid}
+use Rattle.index.proofs.Reachable.{lookup-valid, lookup-broken}
 use Rattle.index.proofs.Cases.{answers}
 use Rattle.index.proofs.Reading.{count, entry-names, entry-fits}
 
@@ -43,3 +42,7 @@ module _ (d : Dict) (v : T (valid d)) (i : ℕ) where
         ordered = omega arith;
         within = entry-fits d v i h .part;
       }
+
+-- a broken dictionary
+pub look-1 : (d : Dict) (i : ℕ) → (T (valid d) → ⊥) → Locates (record { number = 1; kind = 0; start = 0; end = 0 }) (d .arena) (lookup-gives d i)
+look-1 d i n = record { answers = sym (lookup-broken d i n); ordered = omega arith; within = omega arith }

@@ -5,7 +5,7 @@ use mathlib.Core.Option.{none}
 use mathlib.Core.List.{List, [], _∷_, _++_}
 use Prim.Native.Nat.{ℕ, _+_, _*_, _≤_, _<_}
 use native.Mathlib.Omega.{arith}
-use lib.Dec.{le→leb}
+use lib.Dec.{leb→le, le→leb}
 use lib.ListN.{length, getD, take, drop, set, length-append, length-take, length-drop, take-append-drop}
 use lib.Seq.{take-add, getD-take, take-set-lt}
 use Rattle.index.specs.Terms.{Term, start-terms}
@@ -16,7 +16,7 @@ use Rattle.index.specs.Scanning.{named, Scanned}
 use Rattle.index.proofs.Decoding.{size-append}
 use Rattle.index.proofs.Holding.{Holds, holds→, holds←, holds-fits, holds-put, sized→}
 use Rattle.index.proofs.Chains.{prev, Entry, all-entries-at, span-head}
-use Rattle.index.proofs.Distinct.{absent←}
+use Rattle.index.proofs.Distinct.{absent←, holds-well, at-in}
 use Rattle.index.proofs.Appending.{four, head-set, bytes-snoc, entries-end, heads-end}
 use Rattle.index.proofs.Reading.{Entry-is, entry-is, size-upto}
 use Rattle.index.proofs.Walking.{in-place}
@@ -56,6 +56,14 @@ module _ {table arena heads : List ℕ} {k at : ℕ} (s : Scanned table arena he
 
       entry-at : Entry-is table j (size (take j ts)) (length (term-of ts j .bytes)) (term-of ts j .kind) (prev ts (chain (term-of ts j)) j)
       entry-at = entry-is table j (size (take j ts)) (length (term-of ts j .bytes)) (term-of ts j .kind) (prev ts (chain (term-of ts j)) j) (subst (λ (l : List ℕ). Entry l j (size (take j ts)) (length (term-of ts j .bytes)) (term-of ts j .kind) (prev ts (chain (term-of ts j)) j)) (ap (λ (l : List ℕ). l ++ drop (4 * k) (drop 64 table)) (sym (s .entries)) ∙ take-append-drop (4 * k) (drop 64 table)) row)
+
+  -- and its part is short enough for a term's
+  pub scanned-short : (j : ℕ) → j < k → length-of table j ≤ 4096
+  scanned-short j h =
+      let n = named-length table arena k in
+      let w = holds-well (length table) (length arena) (named table arena k) scanned-holds (term-of (named table arena k) j) (at-in (named table arena k) j (omega arith)) in
+      let e = ap (λ (x : Term). length (x .bytes)) (named-at table arena k j h) in
+      omega (arith, leb→le (length (term-of (named table arena k) j .bytes)) 4096 (w .1), e, length-take (length-of table j) (drop (start-of table j) arena), length-drop (start-of table j) arena, scanned-fits j h .part)
 
   -- the head of a chain
   pub scanned-head : (c : ℕ) → c < 64 → 64 ≤ length heads → getD heads c 0 ≡ all-heads (named table arena k) c

@@ -62,7 +62,7 @@ fresh-here ps us t ws f i = go ps us f i
     go : (ps us : List Term) → Fresh ps (us ++ (t ∷ ws)) → In t us → ⊥
     go ps us f i = later ps us f (in-right ps i)
 
-index-there : (i : ℕ) (us : List Term) (t : Term) (ws : List Term) → (In t us → ⊥) → place-from i t (us ++ (t ∷ ws)) ≡ some (i + length us)
+pub index-there : (i : ℕ) (us : List Term) (t : Term) (ws : List Term) → (In t us → ⊥) → place-from i t (us ++ (t ∷ ws)) ≡ some (i + length us)
 unfolding place-from
 index-there i [] t ws n = go (same-term t t) (same-term-refl t)
   where

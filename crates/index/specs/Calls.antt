@@ -7,9 +7,9 @@ use mathlib.Core.List.{List, [], _∷_}
 use Prim.Native.Nat.{ℕ}
 use lib.ListN.{length}
 use Rattle.common.specs.Triples.{if}
-use Rattle.index.specs.Terms.{Term, start-terms}
+use Rattle.index.specs.Terms.{Term, start-terms, property-term, membership-term, member-term, run-terms}
 use Rattle.index.specs.Layout.{Dict, dict, layout, decode}
-use Rattle.index.specs.Dictionary.{if-zero, Lookup-answer, lookup-answer, reckon-put, reckon-lookup, start-refusal, valid}
+use Rattle.index.specs.Dictionary.{place-of, id-of, Brought, full, brought, bring, if-zero, Lookup-answer, lookup-answer, reckon-put, reckon-lookup, start-refusal, valid}
 
 -- what lengths and terms give where the contents are a dictionary's, and another answer where they are not
 abbrev pub on-valid : {A : Type 0} → Dict → (ℕ → ℕ → List Term → A) → (Unit {0} → A) → A
@@ -47,6 +47,29 @@ put-gives d t = on-valid d (put-laid t) (λ _. put-result 1 0 d)
 -- LOOKUP: the number, the kind and the part; it is lent the contents to read
 unfoldable pub lookup-gives : Dict → ℕ → Lookup-answer
 lookup-gives d i = on-valid d (λ tl al ts. reckon-lookup ts i) (λ _. lookup-answer 1 0 [])
+
+-- THE TERMS THAT A RUN PUTS: the number, their three ids, and the contents as they are left
+pub record Run-terms-result : Type 0 where
+  pub number : ℕ
+  pub property : ℕ
+  pub membership : ℕ
+  pub member : ℕ
+  pub contents : Dict
+
+abbrev pub run-terms-result : ℕ → ℕ → ℕ → ℕ → Dict → Run-terms-result
+run-terms-result n p q r d = record { number = n; property = p; membership = q; member = r; contents = d }
+
+abbrev pub run-terms-laid : ℕ → ℕ → List Term → Brought → Run-terms-result
+run-terms-laid tl al ts full = run-terms-result 7 0 0 0 (layout tl al ts)
+run-terms-laid tl al ts (brought us) =
+    run-terms-result 0 (id-of (place-of property-term us)) (id-of (place-of membership-term us)) (id-of (place-of member-term us)) (layout tl al us)
+
+-- in a dictionary that is not broken
+unfoldable pub run-terms-give : Dict → Run-terms-result
+run-terms-give d =
+    let tl = length (d .table) in
+    let al = length (d .arena) in
+    run-terms-laid tl al (decode d) (bring tl al (decode d) run-terms)
 
 -- the contents that puts leave, one after the other
 unfoldable pub puts : Dict → List Term → Dict

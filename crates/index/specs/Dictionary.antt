@@ -32,6 +32,11 @@ place-from i t (u ∷ us) = if (same-term t u) (λ _. some i) (λ _. place-from 
 abbrev pub place-of : Term → List Term → Option ℕ
 place-of t ts = place-from 0 t ts
 
+-- the id, where there is one
+abbrev pub id-of : Option ℕ → ℕ
+id-of (some i) = i
+id-of none = 0
+
 -- PUT
 -- the kind is 1 to 3: else refusal 10
 abbrev pub kind-known : Term → Bool

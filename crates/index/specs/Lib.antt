@@ -4,6 +4,7 @@ pub mod Dictionary
 pub mod Calls
 pub mod Entries
 pub mod Starting
+pub mod Running
 pub mod Values
 pub mod Digest
 pub mod Scanning

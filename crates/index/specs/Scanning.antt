@@ -6,9 +6,9 @@ use mathlib.Core.List.{List}
 use Prim.Native.Nat.{ℕ, _+_, _*_, _-_, _≤_, _<_}
 use lib.Dec.{T}
 use lib.ListN.{length, getD, take, drop, set}
-use Rattle.index.specs.Terms.{Term}
-use Rattle.index.specs.Layout.{dict, size, all-bytes, all-heads, all-entries, span, read}
-use Rattle.index.specs.Dictionary.{holdable, valid}
+use Rattle.index.specs.Terms.{Term, start-terms}
+use Rattle.index.specs.Layout.{dict, size, all-bytes, all-heads, all-entries, span, layout, read}
+use Rattle.index.specs.Dictionary.{start-refusal, holdable, valid}
 use Rattle.index.specs.Entries.{entry-term, Entry-fits}
 use Rattle.index.specs.Digest.{bucket}
 
@@ -74,3 +74,22 @@ pub record Checked-entry (table arena heads hash : List ℕ) (k : ℕ) (ok : Boo
 pub record Checked-all (table arena heads : List ℕ) (n : ℕ) (ok : Bool) (end : ℕ) : Type 0 where
   pub yes : ok ≡ true → Scanned table arena heads n end
   pub no : ok ≡ false → Broken table arena n
+
+-- the start's entries were scanned and hashed
+pub record Scannable (table arena heads hash : List ℕ) (n : ℕ) : Type 0 where
+  pub scanned : Scanned table arena heads 31 1325
+  pub hashed : Hashed table arena hash 31
+  pub some : 31 ≤ n
+  pub entries : 64 + 4 * n ≤ length table
+  pub room : 64 ≤ length heads
+
+-- a table and an arena in which a start is accepted, and a fresh dictionary without room for more
+pub record Fresh-start (table arena fresh iris : List ℕ) : Type 0 where
+  pub accepted : start-refusal (length table) (length arena) ≡ 0
+  pub entries : fresh ≡ layout 188 1325 start-terms .table
+  pub bytes : iris ≡ layout 188 1325 start-terms .arena
+
+-- whether table and arena begin as a fresh dictionary does
+pub record Begins (table arena fresh : List ℕ) (r : Bool) : Type 0 where
+  pub yes : r ≡ true → Scanned table arena fresh 31 1325
+  pub no : r ≡ false → (n : ℕ) → Broken table arena n

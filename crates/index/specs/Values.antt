@@ -6,10 +6,11 @@ use lib.ListN.{length, take, drop}
 use Rattle.index.specs.declared.values.Counters.{Counters}
 use Rattle.index.specs.declared.values.Located.{Located}
 use Rattle.index.specs.declared.values.PutNext.{PutNext}
+use Rattle.index.specs.declared.values.RunTerms.{RunTerms}
 use Rattle.index.specs.declared.values.Started.{Started}
 use Rattle.index.specs.Layout.{Dict, dict}
 use Rattle.index.specs.Dictionary.{Lookup-answer, lookup-answer}
-use Rattle.index.specs.Calls.{Start-result, start-result, Put-result, put-result}
+use Rattle.index.specs.Calls.{Start-result, start-result, Put-result, put-result, Run-terms-result, run-terms-result}
 
 -- a table, an arena and the counters
 abbrev pub contents : List ℕ → List ℕ → Counters → Dict
@@ -22,6 +23,10 @@ start-left r t a = start-result (r .number) (contents t a (r .counters))
 -- the answer of a put, with the table and the arena as they are left
 abbrev pub put-left : PutNext → List ℕ → List ℕ → Put-result
 put-left r t a = put-result (r .number) (r .id .0) (contents t a (r .counters))
+
+-- the answer of the put of a run's terms, with the table and the arena as they are left
+abbrev pub run-terms-left : RunTerms → List ℕ → List ℕ → Run-terms-result
+run-terms-left r t a = run-terms-result (r .number) (r .property .0) (r .membership .0) (r .member .0) (contents t a (r .counters))
 
 -- the answer of a lookup whose part lies at a place of the arena
 abbrev pub located : Located → List ℕ → Lookup-answer

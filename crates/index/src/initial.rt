@@ -4,17 +4,19 @@ use crate::append::write_entry;
 use crate::bytes::copy_at;
 use crate::hash::digest;
 use crate::values::Counters;
+use crate::values::Word;
 use common::Id;
 use common::Vocab;
 ghost use mathlib.Core.Path.{_≡_};
 ghost use mathlib.Core.List.{_++_};
-ghost use Prim.Native.Nat.{_+_};
+ghost use Prim.Native.Nat.{_+_, _≤_};
+ghost use lib.Dec.{T};
 ghost use Rattle.common.specs.Text.{text};
-ghost use lib.ListN.{length};
+ghost use lib.ListN.{length, getD};
 ghost use Rattle.index.specs.Terms.{start-terms};
 ghost use Rattle.index.specs.Layout.{layout};
 ghost use Rattle.index.specs.Dictionary.{start-refusal};
-ghost use Rattle.index.specs.Starting.{Upto, Next, Blank};
+ghost use Rattle.index.specs.Starting.{Upto, Next, Ends, listed, Blank};
 ghost use Rattle.index.specs.Values.{contents};
 
 // Id 0, which stands in no chain.
@@ -56,127 +58,112 @@ fn enter_named(
     enter(table, arena, counters, id, &iri[..end])
 }
 
-fn rdf(table: &mut [u32], arena: &mut [u8], counters: Counters, id: Id, name: &[u8]) -> Counters
-    requires { ⌜ Next (contents (now table) (now arena) counters) (id .0) (text "http://www.w3.org/1999/02/22-rdf-syntax-ns#" ++ now name) ⌝ }
-    ensures { λ r. ⌜ Upto (contents (now (table .exit)) (now (arena .exit)) r) (id .0 + 1) ⌝ }
+// Where the name ends that begins at from, and where the next begins.
+fn name_end(names: &[u8], from: usize) -> Word
+    requires { ⌜ from ≤ length (now names) ⌝ }
+    ensures { λ r. ⌜ Ends (now (names .entry)) from (r .end) (r .next) ⌝ }
 {
-    enter_named(
-        table,
-        arena,
-        counters,
-        id,
-        b"http://www.w3.org/1999/02/22-rdf-syntax-ns#",
-        name,
-    )
+    let mut end = from;
+    while end < names.len() {
+        if names[end] == 32 {
+            return Word { end, next: end + 1 };
+        }
+        end += 1;
+    }
+    Word { end, next: end }
 }
 
-fn rdfs(table: &mut [u32], arena: &mut [u8], counters: Counters, id: Id, name: &[u8]) -> Counters
-    requires { ⌜ Next (contents (now table) (now arena) counters) (id .0) (text "http://www.w3.org/2000/01/rdf-schema#" ++ now name) ⌝ }
-    ensures { λ r. ⌜ Upto (contents (now (table .exit)) (now (arena .exit)) r) (id .0 + 1) ⌝ }
+// The named nodes of a namespace, their local names parted by spaces, each at its id.
+fn enter_names(
+    table: &mut [u32],
+    arena: &mut [u8],
+    counters: Counters,
+    namespace: &[u8],
+    names: &[u8],
+    ids: &[u32],
+) -> Counters
+    requires { ⌜ Upto (contents (now table) (now arena) counters) (getD (now ids) 0 0) × T (listed (now namespace) (now names) (now ids) (getD (now ids) 0 0)) ⌝ }
+    ensures { λ r. ⌜ Upto (contents (now (table .exit)) (now (arena .exit)) r) (getD (now (ids .entry)) 0 0 + length (now (ids .entry))) ⌝ }
 {
-    enter_named(
-        table,
-        arena,
-        counters,
-        id,
-        b"http://www.w3.org/2000/01/rdf-schema#",
-        name,
-    )
+    let mut c = counters;
+    let mut from = 0;
+    let mut k = 0;
+    while k < ids.len() {
+        let name = name_end(names, from);
+        let end = name.end;
+        let next = enter_named(table, arena, c, Id(ids[k]), namespace, &names[from..end]);
+        c = next;
+        from = name.next;
+        k += 1;
+    }
+    c
 }
 
-fn owl(table: &mut [u32], arena: &mut [u8], counters: Counters, id: Id, name: &[u8]) -> Counters
-    requires { ⌜ Next (contents (now table) (now arena) counters) (id .0) (text "http://www.w3.org/2002/07/owl#" ++ now name) ⌝ }
-    ensures { λ r. ⌜ Upto (contents (now (table .exit)) (now (arena .exit)) r) (id .0 + 1) ⌝ }
-{
-    enter_named(
-        table,
-        arena,
-        counters,
-        id,
-        b"http://www.w3.org/2002/07/owl#",
-        name,
-    )
-}
-
-// Ids 1 to 8: the terms of rdf and rdfs.
+// Ids 1 to 4.
 fn enter_rdf(table: &mut [u32], arena: &mut [u8], counters: Counters) -> Counters
     requires { ⌜ Upto (contents (now table) (now arena) counters) 1 ⌝ }
+    ensures { λ r. ⌜ Upto (contents (now (table .exit)) (now (arena .exit)) r) 5 ⌝ }
+{
+    let ids = [
+        Vocab::RDF_TYPE.0,
+        Vocab::RDF_FIRST.0,
+        Vocab::RDF_REST.0,
+        Vocab::RDF_NIL.0,
+    ];
+    let namespace = b"http://www.w3.org/1999/02/22-rdf-syntax-ns#";
+    let names = b"type first rest nil";
+    enter_names(table, arena, counters, namespace, names, &ids)
+}
+
+// Ids 5 to 8.
+fn enter_rdfs(table: &mut [u32], arena: &mut [u8], counters: Counters) -> Counters
+    requires { ⌜ Upto (contents (now table) (now arena) counters) 5 ⌝ }
     ensures { λ r. ⌜ Upto (contents (now (table .exit)) (now (arena .exit)) r) 9 ⌝ }
 {
-    let id = Vocab::RDF_TYPE;
-    let c = rdf(table, arena, counters, id, b"type");
-    let id = Vocab::RDF_FIRST;
-    let c = rdf(table, arena, c, id, b"first");
-    let id = Vocab::RDF_REST;
-    let c = rdf(table, arena, c, id, b"rest");
-    let id = Vocab::RDF_NIL;
-    let c = rdf(table, arena, c, id, b"nil");
-    let id = Vocab::RDFS_DOMAIN;
-    let c = rdfs(table, arena, c, id, b"domain");
-    let id = Vocab::RDFS_RANGE;
-    let c = rdfs(table, arena, c, id, b"range");
-    let id = Vocab::RDFS_SUB_PROPERTY_OF;
-    let c = rdfs(table, arena, c, id, b"subPropertyOf");
-    let id = Vocab::RDFS_SUB_CLASS_OF;
-    rdfs(table, arena, c, id, b"subClassOf")
+    let ids = [
+        Vocab::RDFS_DOMAIN.0,
+        Vocab::RDFS_RANGE.0,
+        Vocab::RDFS_SUB_PROPERTY_OF.0,
+        Vocab::RDFS_SUB_CLASS_OF.0,
+    ];
+    let namespace = b"http://www.w3.org/2000/01/rdf-schema#";
+    let names = b"domain range subPropertyOf subClassOf";
+    enter_names(table, arena, counters, namespace, names, &ids)
 }
 
-// Ids 9 to 20.
-fn enter_classes(table: &mut [u32], arena: &mut [u8], counters: Counters) -> Counters
+// Ids 9 to 30.
+fn enter_owl(table: &mut [u32], arena: &mut [u8], counters: Counters) -> Counters
     requires { ⌜ Upto (contents (now table) (now arena) counters) 9 ⌝ }
-    ensures { λ r. ⌜ Upto (contents (now (table .exit)) (now (arena .exit)) r) 21 ⌝ }
-{
-    let id = Vocab::OWL_THING;
-    let c = owl(table, arena, counters, id, b"Thing");
-    let id = Vocab::OWL_NOTHING;
-    let c = owl(table, arena, c, id, b"Nothing");
-    let id = Vocab::OWL_SAME_AS;
-    let c = owl(table, arena, c, id, b"sameAs");
-    let id = Vocab::OWL_INVERSE_OF;
-    let c = owl(table, arena, c, id, b"inverseOf");
-    let id = Vocab::OWL_SYMMETRIC_PROPERTY;
-    let c = owl(table, arena, c, id, b"SymmetricProperty");
-    let id = Vocab::OWL_IRREFLEXIVE_PROPERTY;
-    let c = owl(table, arena, c, id, b"IrreflexiveProperty");
-    let id = Vocab::OWL_ASYMMETRIC_PROPERTY;
-    let c = owl(table, arena, c, id, b"AsymmetricProperty");
-    let id = Vocab::OWL_TRANSITIVE_PROPERTY;
-    let c = owl(table, arena, c, id, b"TransitiveProperty");
-    let id = Vocab::OWL_EQUIVALENT_PROPERTY;
-    let c = owl(table, arena, c, id, b"equivalentProperty");
-    let id = Vocab::OWL_EQUIVALENT_CLASS;
-    let c = owl(table, arena, c, id, b"equivalentClass");
-    let id = Vocab::OWL_FUNCTIONAL_PROPERTY;
-    let c = owl(table, arena, c, id, b"FunctionalProperty");
-    let id = Vocab::OWL_INVERSE_FUNCTIONAL_PROPERTY;
-    owl(table, arena, c, id, b"InverseFunctionalProperty")
-}
-
-// Ids 21 to 30.
-fn enter_relations(table: &mut [u32], arena: &mut [u8], counters: Counters) -> Counters
-    requires { ⌜ Upto (contents (now table) (now arena) counters) 21 ⌝ }
     ensures { λ r. ⌜ Upto (contents (now (table .exit)) (now (arena .exit)) r) 31 ⌝ }
 {
-    let id = Vocab::OWL_INTERSECTION_OF;
-    let c = owl(table, arena, counters, id, b"intersectionOf");
-    let id = Vocab::OWL_UNION_OF;
-    let c = owl(table, arena, c, id, b"unionOf");
-    let id = Vocab::OWL_HAS_VALUE;
-    let c = owl(table, arena, c, id, b"hasValue");
-    let id = Vocab::OWL_ALL_VALUES_FROM;
-    let c = owl(table, arena, c, id, b"allValuesFrom");
-    let id = Vocab::OWL_SOME_VALUES_FROM;
-    let c = owl(table, arena, c, id, b"someValuesFrom");
-    let id = Vocab::OWL_DISJOINT_WITH;
-    let c = owl(table, arena, c, id, b"disjointWith");
-    let id = Vocab::OWL_ON_PROPERTY;
-    let c = owl(table, arena, c, id, b"onProperty");
-    let id = Vocab::OWL_COMPLEMENT_OF;
-    let c = owl(table, arena, c, id, b"complementOf");
-    let id = Vocab::OWL_PROPERTY_DISJOINT_WITH;
-    let c = owl(table, arena, c, id, b"propertyDisjointWith");
-    let id = Vocab::OWL_CLASS;
-    owl(table, arena, c, id, b"Class")
+    let ids = [
+        Vocab::OWL_THING.0,
+        Vocab::OWL_NOTHING.0,
+        Vocab::OWL_SAME_AS.0,
+        Vocab::OWL_INVERSE_OF.0,
+        Vocab::OWL_SYMMETRIC_PROPERTY.0,
+        Vocab::OWL_IRREFLEXIVE_PROPERTY.0,
+        Vocab::OWL_ASYMMETRIC_PROPERTY.0,
+        Vocab::OWL_TRANSITIVE_PROPERTY.0,
+        Vocab::OWL_EQUIVALENT_PROPERTY.0,
+        Vocab::OWL_EQUIVALENT_CLASS.0,
+        Vocab::OWL_FUNCTIONAL_PROPERTY.0,
+        Vocab::OWL_INVERSE_FUNCTIONAL_PROPERTY.0,
+        Vocab::OWL_INTERSECTION_OF.0,
+        Vocab::OWL_UNION_OF.0,
+        Vocab::OWL_HAS_VALUE.0,
+        Vocab::OWL_ALL_VALUES_FROM.0,
+        Vocab::OWL_SOME_VALUES_FROM.0,
+        Vocab::OWL_DISJOINT_WITH.0,
+        Vocab::OWL_ON_PROPERTY.0,
+        Vocab::OWL_COMPLEMENT_OF.0,
+        Vocab::OWL_PROPERTY_DISJOINT_WITH.0,
+        Vocab::OWL_CLASS.0,
+    ];
+    let namespace = b"http://www.w3.org/2002/07/owl#";
+    let names =
+        b"Thing Nothing sameAs inverseOf SymmetricProperty IrreflexiveProperty AsymmetricProperty TransitiveProperty equivalentProperty equivalentClass FunctionalProperty InverseFunctionalProperty intersectionOf unionOf hasValue allValuesFrom someValuesFrom disjointWith onProperty complementOf propertyDisjointWith Class";
+    enter_names(table, arena, counters, namespace, names, &ids)
 }
 
 // All of them, in a table and an arena of zeros.
@@ -186,8 +173,8 @@ pub fn enter_all(table: &mut [u32], arena: &mut [u8]) -> Counters
 {
     let c = enter_blank(table, arena);
     let c = enter_rdf(table, arena, c);
-    let c = enter_classes(table, arena, c);
-    enter_relations(table, arena, c)
+    let c = enter_rdfs(table, arena, c);
+    enter_owl(table, arena, c)
 }
 
 // The number of a start's refusal for a table and an arena of these lengths, or 0.

@@ -1,4 +1,4 @@
-// The dictionary, as index.rs has it.
+// The dictionary, as index.rs has it: start, put and lookup, for all inputs.
 mod append;
 mod bytes;
 mod container;
@@ -6,24 +6,33 @@ mod entry;
 mod hash;
 mod initial;
 mod inner;
+mod run;
+mod valid;
 mod values;
 
 use bytes::clear_bytes;
 use bytes::clear_numbers;
+use common::Id;
 pub use container::is_container;
 use initial::enter_all;
 use initial::refusal;
 pub use inner::locate;
 pub use inner::lookup_valid;
+use inner::part;
 pub use inner::put_valid;
+use inner::refused;
+pub use valid::is_valid;
 pub use values::Counters;
 pub use values::Located;
 pub use values::Put;
 pub use values::PutNext;
+pub use values::RunTerms;
 pub use values::Started;
 ghost use mathlib.Core.Path.{_≡_};
-ghost use Rattle.index.specs.Calls.{start-gives};
-ghost use Rattle.index.specs.Values.{start-left};
+ghost use Rattle.index.specs.Terms.{term};
+ghost use Rattle.index.specs.Dictionary.{lookup-answer};
+ghost use Rattle.index.specs.Calls.{start-gives, put-gives, lookup-gives};
+ghost use Rattle.index.specs.Values.{contents, start-left, put-left, Locates};
 
 // Starts a dictionary in any table and arena that are well sized and large enough.
 pub fn start(table: &mut [u32], arena: &mut [u8]) -> Started
@@ -43,4 +52,50 @@ pub fn start(table: &mut [u32], arena: &mut [u8]) -> Started
         number: 0,
         counters,
     }
+}
+
+// Put, with the counters by value.
+pub fn put_by_value(
+    table: &mut [u32],
+    arena: &mut [u8],
+    counters: Counters,
+    kind: u32,
+    bytes: &[u8],
+) -> PutNext
+    ensures { λ r. ⌜ put-left r (now (table .exit)) (now (arena .exit)) ≡ put-gives (contents (now (table .entry)) (now (arena .entry)) counters) (term kind (now (bytes .entry))) ⌝ }
+{
+    if is_valid(table, arena, counters) {
+        return put_valid(table, arena, counters, kind, bytes);
+    }
+    refused(1, counters)
+}
+
+// Where the term of an id lies, or a refusal.
+fn find_part(table: &[u32], arena: &[u8], counters: Counters, id: Id) -> Located
+    ensures { λ r. ⌜ Locates r (now (arena .entry)) (lookup-gives (contents (now (table .entry)) (now (arena .entry)) counters) (id .0)) ⌝ }
+{
+    if is_valid(table, arena, counters) {
+        return locate(table, arena, counters, id);
+    }
+    Located {
+        number: 1,
+        kind: 0,
+        start: 0,
+        end: 0,
+    }
+}
+
+// The bytes of an id's term, as the part of the arena that holds them, with the refusal's number and the kind.
+pub fn lookup<'a>(
+    table: &[u32],
+    arena: &'a [u8],
+    counters: Counters,
+    id: Id,
+    number: &mut u32,
+    kind: &mut u32,
+) -> &'a [u8]
+    ensures { λ r. ⌜ lookup-answer (now (number .exit)) (now (kind .exit)) (now r) ≡ lookup-gives (contents (now (table .entry)) (now (arena .entry)) counters) (id .0) ⌝ }
+{
+    let place = find_part(table, arena, counters, id);
+    part(arena, place, number, kind)
 }

@@ -26,6 +26,15 @@ pub struct PutNext {
     pub counters: Counters,
 }
 
+// The ids of the three terms that a run puts, with the counters as they are afterwards.
+pub struct RunTerms {
+    pub number: u32,
+    pub property: Id,
+    pub membership: Id,
+    pub member: Id,
+    pub counters: Counters,
+}
+
 // Where a term lies in the arena, and its kind.
 pub struct Located {
     pub number: u32,
@@ -38,4 +47,16 @@ pub struct Located {
 pub struct Digest {
     pub chain: usize,
     pub bucket: usize,
+}
+
+// Whether entries are as puts leave them, and where the bytes of the last of them end.
+pub struct Checked {
+    pub ok: bool,
+    pub end: usize,
+}
+
+// Where a name ends, and where the next begins.
+pub struct Word {
+    pub end: usize,
+    pub next: usize,
 }

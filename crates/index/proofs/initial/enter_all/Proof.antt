@@ -11,23 +11,23 @@ enter-blank-requires c κs = search needs
 enter-rdf-requires : tie.Need-enter-rdf-requires
 enter-rdf-requires c κs = search needs
 
-enter-classes-requires : tie.Need-enter-classes-requires
-enter-classes-requires c κs = search needs
+enter-rdfs-requires : tie.Need-enter-rdfs-requires
+enter-rdfs-requires c κs = search needs
 
-enter-relations-requires : tie.Need-enter-relations-requires
-enter-relations-requires c κs = search needs
+enter-owl-requires : tie.Need-enter-owl-requires
+enter-owl-requires c κs = search needs
 
 same-length : tie.Need-same-length
 same-length c =
-    c .before .before .before .before .enter-relations .kept .0 ∙ (c .before .before .before .before .before .before .before .before .before .before .before .enter-classes .kept .0 ∙ (c .before .before .before .before .before .before .before .before .before .before .before .before .before .before .before .before .before .before .enter-rdf .kept .0 ∙ c .before .before .before .before .before .before .before .before .before .before .before .before .before .before .before .before .before .before .before .before .before .before .before .before .before .enter-blank .kept .0))
+    c .before .before .before .before .enter-owl .kept .0 ∙ (c .before .before .before .before .before .before .before .before .before .before .before .enter-rdfs .kept .0 ∙ (c .before .before .before .before .before .before .before .before .before .before .before .before .before .before .before .before .before .before .enter-rdf .kept .0 ∙ c .before .before .before .before .before .before .before .before .before .before .before .before .before .before .before .before .before .before .before .before .before .before .before .before .before .enter-blank .kept .0))
 
 same-length-2 : tie.Need-same-length-2
 same-length-2 c =
-    c .before .before .before .before .enter-relations .kept .1 .0 ∙ (c .before .before .before .before .before .before .before .before .before .before .before .enter-classes .kept .1 .0 ∙ (c .before .before .before .before .before .before .before .before .before .before .before .before .before .before .before .before .before .before .enter-rdf .kept .1 .0 ∙ c .before .before .before .before .before .before .before .before .before .before .before .before .before .before .before .before .before .before .before .before .before .before .before .before .before .enter-blank .kept .1 .0))
+    c .before .before .before .before .enter-owl .kept .1 .0 ∙ (c .before .before .before .before .before .before .before .before .before .before .before .enter-rdfs .kept .1 .0 ∙ (c .before .before .before .before .before .before .before .before .before .before .before .before .before .before .before .before .before .before .enter-rdf .kept .1 .0 ∙ c .before .before .before .before .before .before .before .before .before .before .before .before .before .before .before .before .before .before .before .before .before .before .before .before .before .enter-blank .kept .1 .0))
 
 returns : tie.Need-returns
 returns c =
-    all-entered (c .before .before .before .before .enter-relations .ensures) (c .before .before .before .before .enter-relations .kept .0 ∙ (c .before .before .before .before .before .before .before .before .before .before .before .enter-classes .kept .0 ∙ (c .before .before .before .before .before .before .before .before .before .before .before .before .before .before .before .before .before .before .enter-rdf .kept .0 ∙ c .before .before .before .before .before .before .before .before .before .before .before .before .before .before .before .before .before .before .before .before .before .before .before .before .before .enter-blank .kept .0))) (c .before .before .before .before .enter-relations .kept .1 .0 ∙ (c .before .before .before .before .before .before .before .before .before .before .before .enter-classes .kept .1 .0 ∙ (c .before .before .before .before .before .before .before .before .before .before .before .before .before .before .before .before .before .before .enter-rdf .kept .1 .0 ∙ c .before .before .before .before .before .before .before .before .before .before .before .before .before .before .before .before .before .before .before .before .before .before .before .before .before .enter-blank .kept .1 .0)))
+    all-entered (c .before .before .before .before .enter-owl .ensures) (c .before .before .before .before .enter-owl .kept .0 ∙ (c .before .before .before .before .before .before .before .before .before .before .before .enter-rdfs .kept .0 ∙ (c .before .before .before .before .before .before .before .before .before .before .before .before .before .before .before .before .before .before .enter-rdf .kept .0 ∙ c .before .before .before .before .before .before .before .before .before .before .before .before .before .before .before .before .before .before .before .before .before .before .before .before .before .enter-blank .kept .0))) (c .before .before .before .before .enter-owl .kept .1 .0 ∙ (c .before .before .before .before .before .before .before .before .before .before .before .enter-rdfs .kept .1 .0 ∙ (c .before .before .before .before .before .before .before .before .before .before .before .before .before .before .before .before .before .before .enter-rdf .kept .1 .0 ∙ c .before .before .before .before .before .before .before .before .before .before .before .before .before .before .before .before .before .before .before .before .before .before .before .before .before .enter-blank .kept .1 .0)))
 
 pub enter-all-spec : {M : Type 1} → statement M
 enter-all-spec =
@@ -35,8 +35,8 @@ enter-all-spec =
     (tie.spec
     enter-blank-requires
     enter-rdf-requires
-    enter-classes-requires
-    enter-relations-requires
+    enter-rdfs-requires
+    enter-owl-requires
     same-length
     same-length-2
     returns)
