@@ -2,21 +2,19 @@
 -- reads so many into a fixed buffer never cuts its input in silence. Assumes nothing.
 use mathlib.Core.Path.{_≡_, refl, sym, ap, _∙_}
 use mathlib.Core.Logic.{_⊎_, inl, inr}
-use mathlib.Core.Bool.{Bool, true, false}
+use mathlib.Core.Bool.{true, false}
 use mathlib.Core.Option.{Option, some, none}
 use mathlib.Core.List.{List, [], _∷_, _++_}
 use Prim.Native.Nat.{ℕ, zero, suc, _+_, _-_, _*_, _≤_, _<_}
 use native.Mathlib.Omega.{arith}
-use lib.Dec.{leb, ltb, eqb}
+use lib.Dec.{leb, eqb}
 use lib.ListN.{length, take, drop, length-take, length-drop}
 use lib.Seq.{take-nil}
-use borrow.Author.Tests.{ltb-true, ltb-false, leb-true, leb-false, le-leb, lt-leb}
-use Rattle.common.specs.Triples.{if}
-use Rattle.closer_input.specs.Decimal.{number, digits}
-use Rattle.closer_input.specs.Input.{before, onto, parts, lines, fields, on, id, three-ids, id-line, count-line, Reading, reading, id-lines, read-lines, read, Parsed, bad-line, input, parsed, parse}
-use Rattle.closer_input.proofs.Numerals.{either, Numeral, numeral, digits-number, few-digits}
+use borrow.Author.Tests.{leb-true, leb-false, le-leb, lt-leb}
+use Rattle.closer_input.specs.Input.{before, parts, lines, fields, id, three-ids, id-line, count-line, reading, id-lines, read-lines, read, bad-line, input, parsed, parse}
+use Rattle.closer_input.proofs.Numerals.{either, numeral, digits-number, few-digits}
 use Rattle.closer_input.proofs.Writing.{short-digits}
-use Rattle.closer_input.proofs.Reading.{before-short, fields-some, after-line, lines-next}
+use Rattle.closer_input.proofs.Reading.{fields-some, after-line, lines-next}
 
 -- none is not some
 none-some : {A : Type 0} {a : A} {B : Type 0} → none ≡ some a → B

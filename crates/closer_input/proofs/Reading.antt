@@ -1,20 +1,18 @@
 -- Lines and fields by the places where they end; an id line; and the loop over the lines. Assumes nothing.
 use mathlib.Core.Path.{_≡_, refl, sym, ap, subst, _∙_}
 use mathlib.Core.Logic.{_⊎_, inl, inr}
-use mathlib.Core.Bool.{Bool, true, false}
+use mathlib.Core.Bool.{true, false}
 use mathlib.Core.Option.{Option, some, none}
-use mathlib.Core.List.{List, [], _∷_, _++_, append-assoc, append-nil}
-use Prim.Native.Nat.{ℕ, zero, suc, _+_, _-_, _*_, _≤_, _<_}
-use native.Mathlib.Nat.{add-zero, zero-add}
+use mathlib.Core.List.{List, [], _∷_, _++_}
+use Prim.Native.Nat.{ℕ, suc, _+_, _-_, _*_, _≤_, _<_}
+use native.Mathlib.Nat.{add-zero}
 use native.Mathlib.Numerals.{add-one, add-two}
 use native.Mathlib.Omega.{arith}
-use lib.Dec.{leb, ltb, eqb}
-use lib.ListN.{length, getD, take, drop, set, length-append, length-set, length-take, length-drop, drop-of-length-le}
-use lib.Seq.{sets, sets-eq, length-sets, length-take-le, drop-cons, drop-drop, drop-length, take-at, take-all, take-nil}
-use borrow.Author.Tests.{ltb-true, ltb-false, eqb-true, eqb-false, eq-eqb, ne-eqb, le-leb, lt-leb}
-use Rattle.common.specs.Triples.{if}
-use Rattle.closer_input.specs.Decimal.{number}
-use Rattle.closer_input.specs.Input.{before, onto, parts, lines, fields, on, id, three-ids, id-line, count-line, Reading, reading, id-lines, read-lines, read, Parsed, bad-line, input, parsed, parse}
+use lib.Dec.{ltb, eqb}
+use lib.ListN.{length, getD, take, drop, set, length-drop, drop-of-length-le}
+use lib.Seq.{sets, length-sets, length-take-le, drop-cons, drop-drop, take-nil}
+use borrow.Author.Tests.{ltb-true, ltb-false, eq-eqb, ne-eqb, le-leb}
+use Rattle.closer_input.specs.Input.{before, parts, lines, fields, id, three-ids, id-line, count-line, reading, id-lines, read-lines, read, bad-line, input, parse}
 use Rattle.closer_input.specs.Contracts.{number-of, part, TwoSpaces, SpacesOf, ids-of, parsed-of, lines-of, ParseOf}
 use Rattle.closer_input.specs.declared.decimal.Field.{Field}
 use Rattle.closer_input.specs.declared.decimal.Field.the-variants.{Number, Bad as No-number}

@@ -5,10 +5,12 @@ use Prim.Native.Nat.{ℕ, zero, suc, _+_, _-_, _*_, _/_, _%_, _^_, _≤_, _<_}
 use native.Mathlib.Nat.{add-suc, add-zero, zero-add, mul-zero, mul-suc, mul-le-mul-left}
 use native.Mathlib.Numerals.{add-one}
 use native.Mathlib.Omega.{arith}
-use lib.ListN.{length, getD, take, drop, set, length-append, length-set, length-take, length-drop, drop-of-length-le}
-use lib.Seq.{sets, sets-eq, length-sets, length-take-le, take-at, take-suc, drop-cons, drop-drop, take-all, getD-take, getD-drop, drop-nil, take-length}
+use lib.ListN.{replicate, length, getD, take, drop, set, length-append, length-set, length-take, length-drop, drop-of-length-le}
+use lib.Seq.{sets, sets-eq, length-sets, length-take-le, take-at, take-suc, drop-cons, drop-drop, take-all, getD-drop}
+use Rattle.common.specs.Triples.{Triple, Finding, concat-map}
+use Rattle.common.specs.Rows.{flat, flat-findings, filled}
 use Rattle.closer_input.specs.Decimal.{digits}
-use Rattle.closer_input.specs.Output.{ending, line, table, answer}
+use Rattle.closer_input.specs.Output.{ending, line, table, printed, answer}
 use Rattle.closer_input.specs.Contracts.{part, Wrote, TableFits, AnswerFits}
 use Rattle.closer_input.proofs.Numerals.{digits-one, digits-more, few-digits}
 
@@ -304,3 +306,18 @@ module _ {store : List ℕ} {triples : ℕ} {findings : List ℕ} {records : ℕ
 
   pub answer-whole : {d : List ℕ} {n : ℕ} {c : List ℕ} {last : ℕ} → Wrote b m (table 3 triples store) d n → Wrote d n (table 5 records findings) c last → Wrote old 0 (answer store triples findings records) c last
   answer-whole u v = wrote-then w (wrote-then u v)
+
+-- A STORE that holds triples, and findings, as a run leaves them: the output is that of the triples and findings
+triples-table : (ts : List Triple) (rest : List ℕ) → table 3 (length ts) (flat ts ++ rest) ≡ concat-map ts (λ t. line (t .s ∷ t .p ∷ t .o ∷ []))
+unfolding table
+triples-table [] rest = refl
+triples-table (t ∷ ts) rest = ap (λ x. line (t .s ∷ t .p ∷ t .o ∷ []) ++ x) (triples-table ts rest)
+
+findings-table : (fs : List Finding) (rest : List ℕ) → table 5 (length fs) (flat-findings fs ++ rest) ≡ concat-map fs (λ x. line (x .check ∷ x .a ∷ x .b ∷ x .c ∷ x .d ∷ []))
+unfolding table
+findings-table [] rest = refl
+findings-table (x ∷ fs) rest = ap (λ l. line (x .check ∷ x .a ∷ x .b ∷ x .c ∷ x .d ∷ []) ++ l) (findings-table fs rest)
+
+pub answer-printed : (store findings : List ℕ) (ts : List Triple) (fs : List Finding) → answer (filled store (flat ts)) (length ts) (filled findings (flat-findings fs)) (length fs) ≡ printed ts fs
+answer-printed store findings ts fs =
+    rw (triples-table ts (replicate (length store - length (flat ts)) 0), findings-table fs (replicate (length findings - length (flat-findings fs)) 0)) refl

@@ -2,10 +2,7 @@
 use crate::decimal::put_number;
 ghost use mathlib.Core.Path.{_≡_};
 ghost use Prim.Native.Nat.{_+_, _*_, _≤_};
-ghost use mathlib.Core.List.{List, [], _∷_, _++_};
 ghost use lib.ListN.{length};
-ghost use Rattle.common.specs.Text.{text};
-ghost use Rattle.closer_input.specs.Decimal.{digits};
 ghost use Rattle.closer_input.specs.Output.{ending as Output·ending, line, table, answer, refusal, bad-line, name};
 ghost use Rattle.closer_input.specs.Contracts.{Wrote, TableFits, AnswerFits};
 
