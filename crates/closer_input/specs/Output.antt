@@ -36,8 +36,9 @@ answer store triples findings records = line (0 ∷ triples ∷ records ∷ []) 
 abbrev pub refusal : ℕ → List ℕ
 refusal n = line (n ∷ 0 ∷ 0 ∷ [])
 
-abbrev pub bad-line : ℕ → List ℕ
-bad-line k = text "bad line " ++ (digits k ++ (10 ∷ []))
+-- the first bad line's number, as "bad line 2"
+abbrev pub bad-line-text : ℕ → List ℕ
+bad-line-text k = text "bad line " ++ (digits k ++ (10 ∷ []))
 
 -- the n-th named node that the program puts
 abbrev pub name : ℕ → List ℕ
