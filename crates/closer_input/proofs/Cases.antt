@@ -6,6 +6,7 @@ use Rattle.closer_input.specs.Input.{parts, id-line, id-lines, read, par
 use Rattle.closer_input.specs.Output.{line, table}
 use Rattle.closer_input.specs.Cases.{AllHold, cases}
 
+-- every case of the table
 pub cases-hold : AllHold cases
 unfolding parse read id-lines id-line parts number all-digits value table line digits digits-within
 cases-hold = (refl, (refl, (refl, (refl, (refl, (refl, (refl, (refl, (refl, (refl, (refl, (refl, (refl, (refl, (refl, (refl, (refl, (refl, (refl, (refl, (refl, (refl, (refl, (refl, (refl, (refl, (refl, (refl, (refl, (refl, (refl, (refl, (refl, (refl, (refl, (refl, tt))))))))))))))))))))))))))))))))))))

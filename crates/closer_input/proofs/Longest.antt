@@ -2,21 +2,19 @@
 -- reads so many into a fixed buffer never cuts its input in silence. Assumes nothing.
 use mathlib.Core.Path.{_≡_, refl, sym, ap, _∙_}
 use mathlib.Core.Logic.{_⊎_, inl, inr}
-use mathlib.Core.Bool.{Bool, true, false}
+use mathlib.Core.Bool.{true, false}
 use mathlib.Core.Option.{Option, some, none}
 use mathlib.Core.List.{List, [], _∷_, _++_}
 use Prim.Native.Nat.{ℕ, zero, suc, _+_, _-_, _*_, _≤_, _<_}
 use native.Mathlib.Omega.{arith}
-use lib.Dec.{leb, ltb, eqb}
+use lib.Dec.{leb, eqb}
 use lib.ListN.{length, take, drop, length-take, length-drop}
 use lib.Seq.{take-nil}
-use borrow.Author.Tests.{ltb-true, ltb-false, leb-true, leb-false, le-leb, lt-leb}
-use Rattle.common.specs.Triples.{if}
-use Rattle.closer_input.specs.Decimal.{number, digits}
-use Rattle.closer_input.specs.Input.{before, onto, parts, lines, fields, on, id, three-ids, id-line, count-line, Reading, reading, id-lines, read-lines, read, Parsed, bad-line, input, parsed, parse}
-use Rattle.closer_input.proofs.Numerals.{either, Numeral, numeral, digits-number, few-digits}
+use borrow.Author.Tests.{leb-true, leb-false, le-leb, lt-leb}
+use Rattle.closer_input.specs.Input.{before, parts, lines, fields, id, three-ids, id-line, count-line, reading, id-lines, read-lines, read, bad-line, input, parsed, parse}
+use Rattle.closer_input.proofs.Numerals.{either, numeral, digits-number, few-digits}
 use Rattle.closer_input.proofs.Writing.{short-digits}
-use Rattle.closer_input.proofs.Reading.{before-short, fields-some, after-line, lines-next}
+use Rattle.closer_input.proofs.Reading.{fields-some, after-line, lines-next}
 
 -- none is not some
 none-some : {A : Type 0} {a : A} {B : Type 0} → none ≡ some a → B
@@ -49,6 +47,7 @@ before-long e (suc n) (b ∷ bs) h = go (λ i. before-long e n bs i) (either (eq
     go ih (inl t) = absurd (omega (arith, rw t at h))
     go ih (inr t) = rw t (ap suc (ih (omega (arith, rw t at h))))
 
+-- what follows m bytes of the first n
 drop-take : (m n : ℕ) (bs : List ℕ) → drop m (take n bs) ≡ take (n - m) (drop m bs)
 drop-take zero n bs = let z : n ≡ n - 0 = omega arith in ap (λ k. take k bs) z
 drop-take (suc m) zero bs = let z : 0 ≡ 0 - suc m = omega arith in ap (λ k. take k (drop (suc m) bs)) z
@@ -59,6 +58,7 @@ drop-take (suc m) (suc n) (b ∷ bs) = let z : n - m ≡ suc n - suc m = omega a
 short-count : (l : List ℕ) (n : ℕ) → count-line l ≡ some n → length l ≤ 3
 short-count l n e = let m = numeral 500 l n e .most-is in let d = ap length (digits-number 500 l n e) in let f = few-digits 2 n (omega arith) in omega arith
 
+-- at most ten digits
 short-id : (l : List ℕ) (n : ℕ) → id l ≡ some n → length l ≤ 10
 short-id l n e = let m = numeral 4294967295 l n e .most-is in let d = ap length (digits-number 4294967295 l n e) in let f = short-digits n (omega arith) in omega arith
 
@@ -67,6 +67,7 @@ total : List (List ℕ) → ℕ
 total [] = 0
 total (f ∷ fs) = length f + 1 + total fs
 
+-- they are the line, with one byte more
 fields-total : (bs : List ℕ) → total (fields bs) ≡ length bs + 1
 unfolding parts total
 fields-total [] = refl
@@ -91,12 +92,14 @@ three-short (a ∷ b ∷ c ∷ []) t e = go (id a) refl (id b) refl (id c) refl
     go (some s) p (some u) q (some v) r = let i = short-id a s p in let j = short-id b u q in let k = short-id c v r in omega arith
 three-short (a ∷ b ∷ c ∷ d ∷ fs) t e = none-some e
 
+-- so a line of three ids has at most 32 bytes
 short-ids : (l t : List ℕ) → id-line l ≡ some t → length l ≤ 32
 unfolding id-line
 short-ids l t e = let s = three-short (fields l) t e in let f = fields-total l in omega arith
 
 -- a longer line is bad
 module _ {A : Type 0} (P : List ℕ → Option A) (most : ℕ) (short : (l : List ℕ) (a : A) → P l ≡ some a → length l ≤ most) where
+  -- a longer line is bad,
   long-none : (l : List ℕ) → most < length l → P l ≡ none
   long-none l h = go (P l) refl
     where
@@ -116,6 +119,7 @@ module _ {A : Type 0} (P : List ℕ → Option A) (most : ℕ) (short : (l : Lis
 lines-cut : (n : ℕ) (bs : List ℕ) → 0 < n → 0 < length bs → lines (take n bs) ≡ before 10 (take n bs) ∷ lines (after-line (take n bs))
 lines-cut n bs h i = let l = length-take n bs in lines-next (take n bs) (omega arith)
 
+-- where the first is whole
 lines-whole : (n : ℕ) (bs : List ℕ) → 0 < n → 0 < length bs → length (before 10 bs) ≤ n → lines (take n bs) ≡ before 10 bs ∷ lines (take (n - suc (length (before 10 bs))) (after-line bs))
 lines-whole n bs h i s = lines-cut n bs h i ∙ rw (before-cut 10 n bs s, drop-take (suc (length (before 10 bs))) n bs) refl
 
@@ -124,6 +128,7 @@ ids-over : (c k : ℕ) (is l : List ℕ) (ls : List (List ℕ)) → 1001 < k →
 unfolding id-lines
 ids-over c k is l ls h = rw (lt-leb k 1001 h) refl
 
+-- a line of another shape ends the reading,
 ids-stop : (c k : ℕ) (is l : List ℕ) (ls : List (List ℕ)) → id-line l ≡ none → id-lines c k is (l ∷ ls) ≡ reading c is (some k)
 unfolding id-lines
 ids-stop c k is l ls e = go (either (leb k 1001))
@@ -132,6 +137,7 @@ ids-stop c k is l ls e = go (either (leb k 1001))
     go (inl t) = rw (t, e) refl
     go (inr t) = rw t refl
 
+-- and a line of three ids goes on
 ids-next : (c k : ℕ) (is l t : List ℕ) (ls : List (List ℕ)) → k ≤ 1001 → id-line l ≡ some t → id-lines c k is (l ∷ ls) ≡ id-lines c (suc k) (is ++ t) ls
 unfolding id-lines
 ids-next c k is l t ls h e = rw (le-leb k 1001 h, e) refl
@@ -191,6 +197,7 @@ read-cut n (b ∷ bs) h = go (count-line (before 10 (b ∷ bs))) refl
         rw (lines-whole n (b ∷ bs) (omega arith) some-byte (omega arith), lines-next (b ∷ bs) some-byte, e)
         (ids-cut 1000 c 2 (n - suc (length (before 10 (b ∷ bs)))) [] (after-line (b ∷ bs)) refl (omega arith))
 
+-- what a program that reads 33,005 bytes finds is what the whole input says
 pub parse-cut : (text : List ℕ) → parse (take 33005 text) ≡ parse text
 unfolding parse
 parse-cut text = ap parsed (read-cut 33005 text (omega arith))
@@ -200,6 +207,7 @@ record Good (text : List ℕ) (n : ℕ) : Type 0 where
   whole : read text .bad ≡ none
   count-is : read text .count ≡ n
 
+-- a good input has no bad line
 good : (text : List ℕ) (n : ℕ) (is : List ℕ) → parse text ≡ input n is → Good text n
 unfolding parse
 good text n is e = go (read text .bad) refl
@@ -219,6 +227,7 @@ ids-count c k is (l ∷ ls) = go (either (leb k 1001)) (id-line l) refl (λ t. i
     go (inl t) none e ih = rw (t, e) refl
     go (inl t) (some u) e ih = rw (t, e) (ih u)
 
+-- one line of them, where what is left of the text is short enough
 line-length : (r c k : ℕ) (is bs : List ℕ) → k + suc r ≡ 1002 → id-lines c k is (lines bs) .bad ≡ none
     → ((t rest : List ℕ) → id-lines c (suc k) (is ++ t) (lines rest) .bad ≡ none → length rest ≤ 33 * r)
     → length bs ≤ 33 * suc r
@@ -237,6 +246,7 @@ line-length r c k is (b ∷ bs) h e ih = go (id-line (before 10 (b ∷ bs))) ref
         let l = length-drop (suc (length (before 10 (b ∷ bs)))) (b ∷ bs) in
         omega arith
 
+-- all of them
 ids-length : (r c k : ℕ) (is bs : List ℕ) → k + r ≡ 1002 → id-lines c k is (lines bs) .bad ≡ none → length bs ≤ 33 * r
 ids-length zero c k is [] h e = omega arith
 ids-length zero c k is (b ∷ bs) h e = none-some (sym (rw (lines-next (b ∷ bs) (omega arith)) at e) ∙ ap (λ x. x .bad) (ids-over c k is (before 10 (b ∷ bs)) (lines (after-line (b ∷ bs))) (omega arith)))
@@ -248,6 +258,7 @@ record Counts (text : List ℕ) : Type 0 where
   first : count-line (before 10 text) ≡ some n
   after : read text ≡ id-lines n 2 [] (lines (after-line text))
 
+-- a good input has a count
 counts : (text : List ℕ) → read text .bad ≡ none → Counts text
 unfolding read parts
 counts [] e = none-some (sym e)

@@ -2,8 +2,8 @@
 -- of the loop that reads one. Assumes nothing.
 use mathlib.Core.Path.{_≡_, refl, sym, ap, _∙_}
 use mathlib.Core.Logic.{_⊎_, inl, inr}
-use mathlib.Core.Bool.{Bool, true, false, _&&_, not, true≢false}
-use mathlib.Core.Option.{Option, some, none}
+use mathlib.Core.Bool.{Bool, true, false, _&&_, true≢false}
+use mathlib.Core.Option.{some, none}
 use mathlib.Core.List.{List, [], _∷_, _++_, append-assoc, append-nil}
 use Prim.Native.Nat.{ℕ, zero, suc, _+_, _-_, _*_, _/_, _%_, _^_, _≤_, _<_}
 use native.Mathlib.Nat.{pow-suc, zero-add}
@@ -12,7 +12,7 @@ use native.Mathlib.Omega.{arith}
 use lib.Dec.{leb, ltb, eqb}
 use lib.ListN.{length, getD, drop, length-append, drop-of-length-le, List·getD-append}
 use lib.Seq.{drop-cons}
-use borrow.Author.Tests.{ltb-true, ltb-false, leb-true, leb-false, eqb-true, eqb-false, lt-ltb, le-ltb, le-leb, lt-leb, eq-eqb, ne-eqb}
+use borrow.Author.Tests.{ltb-true, ltb-false, leb-true, leb-false, eqb-false, lt-ltb, le-ltb, le-leb, lt-leb, eq-eqb, ne-eqb}
 use Rattle.common.specs.Triples.{if}
 use Rattle.common.specs.Containers.{is-digit, all-digits, value}
 use Rattle.closer_input.specs.Decimal.{no-leading-zero, number, digits-within, digits}
@@ -35,10 +35,12 @@ enough (suc k) (suc m) n h i = go (λ a b. enough k m (n / 10) a b) (either (ltb
         let more = ltb-false n 10 e in
         rw e (ap (λ ds. ds ++ ((48 + n % 10) ∷ [])) (f (omega arith) (omega arith)))
 
+-- one digit,
 pub digits-one : (n : ℕ) → n < 10 → digits n ≡ (48 + n) ∷ []
 unfolding digits digits-within
 digits-one n h = rw (lt-ltb n 10 h) refl
 
+-- and one digit after the others
 pub digits-more : (n : ℕ) → 10 ≤ n → digits n ≡ digits (n / 10) ++ ((48 + n % 10) ∷ [])
 unfolding digits digits-within
 digits-more n h = rw (le-ltb n 10 h) (ap (λ ds. ds ++ ((48 + n % 10) ∷ [])) (enough n (suc (n / 10)) (n / 10) (omega arith) (omega arith)))
@@ -85,6 +87,7 @@ all-append (b ∷ xs) ys = go (all-append xs ys) (either (is-digit b))
     go ih (inl e) = rw (e, ih) refl
     go ih (inr e) = rw e refl
 
+-- the value of digits and further digits
 value-append : (v : ℕ) (xs ys : List ℕ) → value v (xs ++ ys) ≡ value (value v xs) ys
 unfolding value
 value-append v [] ys = refl
@@ -100,10 +103,12 @@ value-grows v (b ∷ bs) = let g = value-grows (10 * v + (b - 48)) bs in omega a
 pub digit-byte : (d : ℕ) → d < 10 → is-digit (48 + d) ≡ true
 digit-byte d h = rw (le-leb 48 (48 + d) (omega arith), le-leb (48 + d) 57 (omega arith)) refl
 
+-- what `digits` writes are digits,
 all-of-digits : (n : ℕ) → all-digits (digits n) ≡ true
 unfolding all-digits
 all-of-digits = by-digits (λ n ds. all-digits ds ≡ true) (λ n h. rw (digit-byte n h) refl) (λ n h i. all-append (digits (n / 10)) ((48 + n % 10) ∷ []) ∙ rw (i, digit-byte (n % 10) (omega arith)) refl)
 
+-- of the value of the number
 value-of-digits : (n : ℕ) → value 0 (digits n) ≡ n
 unfolding value
 value-of-digits = by-digits (λ n ds. value 0 ds ≡ n) (λ n h. omega arith) (λ n h i. value-append 0 (digits (n / 10)) ((48 + n % 10) ∷ []) ∙ rw i (omega arith))
@@ -113,10 +118,12 @@ pub number-some : (most : ℕ) (bs : List ℕ) → no-leading-zero bs ≡ true �
 unfolding number
 number-some most bs z a h = rw (z, a, le-leb (value 0 bs) most h) refl
 
+-- no byte, or a zero in front,
 pub zero-led : (most : ℕ) (bs : List ℕ) → no-leading-zero bs ≡ false → number most bs ≡ none
 unfolding number
 zero-led most bs z = rw z refl
 
+-- another byte than a digit,
 pub no-digit : (most : ℕ) (bs : List ℕ) → all-digits bs ≡ false → number most bs ≡ none
 unfolding number
 no-digit most bs a = go (either (no-leading-zero bs))
@@ -125,6 +132,7 @@ no-digit most bs a = go (either (no-leading-zero bs))
     go (inl z) = rw (z, a) refl
     go (inr z) = rw z refl
 
+-- or too large a value: no number
 pub too-large : (most : ℕ) (bs : List ℕ) → most < value 0 bs → number most bs ≡ none
 unfolding number
 too-large most bs h = go (either (no-leading-zero bs)) (either (all-digits bs))
@@ -141,6 +149,7 @@ pub record Numeral (most : ℕ) (bs : List ℕ) (n : ℕ) : Type 0 where
   pub is : value 0 bs ≡ n
   pub most-is : n ≤ most
 
+-- a number that was read passed them all
 pub numeral : (most : ℕ) (bs : List ℕ) (n : ℕ) → number most bs ≡ some n → Numeral most bs n
 unfolding number
 numeral most bs n e = go (either (no-leading-zero bs)) (either (all-digits bs)) (either (leb (value 0 bs) most))
@@ -164,6 +173,7 @@ leads [] e h = absurd (omega arith)
 leads (b ∷ []) e h = absurd (omega arith)
 leads (b ∷ c ∷ bs) e h = rw (eq-eqb b 48 e) refl
 
+-- and where none does
 pub leads-not : (bs : List ℕ) → (getD bs 0 0 ≡ 48 → ⊥) → 0 < length bs → no-leading-zero bs ≡ true
 leads-not [] f h = absurd (omega arith)
 leads-not (b ∷ []) f h = refl
@@ -174,16 +184,19 @@ pub number-empty : (most : ℕ) (bs : List ℕ) → length bs ≡ 0 → number m
 number-empty most [] h = zero-led most [] refl
 number-empty most (b ∷ bs) h = absurd (omega arith)
 
+-- one zero alone
 pub number-zero : (most : ℕ) (bs : List ℕ) → getD bs 0 0 ≡ 48 → length bs ≤ 1 → number most bs ≡ some 0
 unfolding all-digits value
 number-zero most [] e h = absurd (omega arith)
 number-zero most (b ∷ []) e h = rw e (number-some most (48 ∷ []) refl refl (omega arith))
 number-zero most (b ∷ c ∷ bs) e h = absurd (omega arith)
 
+-- the digits of a number that is not 0 begin with another digit than 0,
 first-digit : (n : ℕ) → 0 < n → getD (digits n) 0 0 ≡ 48 → ⊥
 first-digit = by-digits (λ n ds. 0 < n → getD ds 0 0 ≡ 48 → ⊥) (λ n h i e. omega arith)
     (λ n h f i e. f (omega arith) (sym (List·getD-append (digits (n / 10)) ((48 + n % 10) ∷ []) 0 0 (some-digits (n / 10))) ∙ e))
 
+-- so that `digits` puts no zero in front
 digits-led : (n : ℕ) → no-leading-zero (digits n) ≡ true
 digits-led n = go (either (ltb n 10))
   where
@@ -197,6 +210,7 @@ number-digits most n h =
     let v = value-of-digits n in
     number-some most (digits n) (digits-led n) (all-of-digits n) (omega arith) ∙ ap some v
 
+-- a digit's byte is from 48 to 57
 digit-of : (b : ℕ) → is-digit b ≡ true → (48 ≤ b) × (b ≤ 57)
 digit-of b e = go (either (leb 48 b)) (either (leb b 57))
   where
@@ -257,6 +271,7 @@ pub record Counted (bs : List ℕ) (most i v : ℕ) : Type 0 where
   pub is : value 0 bs ≡ value v (drop i bs)
   pub small : v ≤ most
 
+-- no digit was read
 pub counted-start : (bs : List ℕ) (most : ℕ) → Counted bs most 0 0
 counted-start bs most = record { upto = omega arith; all = refl; is = refl; small = omega arith }
 
@@ -266,6 +281,7 @@ module _ {bs : List ℕ} {most i v : ℕ} (c : Counted bs most i v) (h : i < len
   unfolding all-digits
   next-all = c .all ∙ rw (drop-cons bs i 0 h) refl
 
+  -- its value
   next-value : value 0 bs ≡ value (10 * v + (getD bs i 0 - 48)) (drop (suc i) bs)
   unfolding value
   next-value = c .is ∙ rw (drop-cons bs i 0 h) refl
@@ -274,6 +290,7 @@ module _ {bs : List ℕ} {most i v : ℕ} (c : Counted bs most i v) (h : i < len
   pub counted-low : getD bs i 0 < 48 → number most bs ≡ none
   counted-low l = no-digit most bs (next-all ∙ rw (lt-leb 48 (getD bs i 0) l) refl)
 
+  -- nor a byte above the digits
   pub counted-high : 48 ≤ getD bs i 0 → 57 < getD bs i 0 → number most bs ≡ none
   counted-high l r = no-digit most bs (next-all ∙ rw (le-leb 48 (getD bs i 0) l, lt-leb (getD bs i 0) 57 r) refl)
 

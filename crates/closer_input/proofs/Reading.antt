@@ -1,20 +1,18 @@
 -- Lines and fields by the places where they end; an id line; and the loop over the lines. Assumes nothing.
 use mathlib.Core.Path.{_≡_, refl, sym, ap, subst, _∙_}
 use mathlib.Core.Logic.{_⊎_, inl, inr}
-use mathlib.Core.Bool.{Bool, true, false}
+use mathlib.Core.Bool.{true, false}
 use mathlib.Core.Option.{Option, some, none}
-use mathlib.Core.List.{List, [], _∷_, _++_, append-assoc, append-nil}
-use Prim.Native.Nat.{ℕ, zero, suc, _+_, _-_, _*_, _≤_, _<_}
-use native.Mathlib.Nat.{add-zero, zero-add}
+use mathlib.Core.List.{List, [], _∷_, _++_}
+use Prim.Native.Nat.{ℕ, suc, _+_, _-_, _*_, _≤_, _<_}
+use native.Mathlib.Nat.{add-zero}
 use native.Mathlib.Numerals.{add-one, add-two}
 use native.Mathlib.Omega.{arith}
-use lib.Dec.{leb, ltb, eqb}
-use lib.ListN.{length, getD, take, drop, set, length-append, length-set, length-take, length-drop, drop-of-length-le}
-use lib.Seq.{sets, sets-eq, length-sets, length-take-le, drop-cons, drop-drop, drop-length, take-at, take-all, take-nil}
-use borrow.Author.Tests.{ltb-true, ltb-false, eqb-true, eqb-false, eq-eqb, ne-eqb, le-leb, lt-leb}
-use Rattle.common.specs.Triples.{if}
-use Rattle.closer_input.specs.Decimal.{number}
-use Rattle.closer_input.specs.Input.{before, onto, parts, lines, fields, on, id, three-ids, id-line, count-line, Reading, reading, id-lines, read-lines, read, Parsed, bad-line, input, parsed, parse}
+use lib.Dec.{ltb, eqb}
+use lib.ListN.{length, getD, take, drop, set, length-drop, drop-of-length-le}
+use lib.Seq.{sets, length-sets, length-take-le, drop-cons, drop-drop, take-nil}
+use borrow.Author.Tests.{ltb-true, ltb-false, eq-eqb, ne-eqb, le-leb}
+use Rattle.closer_input.specs.Input.{before, parts, lines, fields, id, three-ids, id-line, count-line, reading, id-lines, read-lines, read, bad-line, input, parse}
 use Rattle.closer_input.specs.Contracts.{number-of, part, TwoSpaces, SpacesOf, ids-of, parsed-of, lines-of, ParseOf}
 use Rattle.closer_input.specs.declared.decimal.Field.{Field}
 use Rattle.closer_input.specs.declared.decimal.Field.the-variants.{Number, Bad as No-number}
@@ -32,6 +30,7 @@ before-found : (e b : ℕ) (bs : List ℕ) → b ≡ e → before e (b ∷ bs) �
 unfolding before
 before-found e b bs h = rw (eq-eqb b e h) refl
 
+-- another byte in front of it
 before-next : (e b : ℕ) (bs : List ℕ) → (b ≡ e → ⊥) → before e (b ∷ bs) ≡ b ∷ before e bs
 unfolding before
 before-next e b bs h = rw (ne-eqb b e h) refl
@@ -41,18 +40,22 @@ pub record Seeking (bs : List ℕ) (e at i : ℕ) : Type 0 where
   pub upto : i ≤ length bs
   pub is : at + length (before e (drop at bs)) ≡ i + length (before e (drop i bs))
 
+-- where the search begins
 pub seeking-start : (bs : List ℕ) (e at : ℕ) → at ≤ length bs → Seeking bs e at at
 seeking-start bs e at h = record { upto = h; is = refl }
 
+-- the byte is here
 pub seeking-found : {bs : List ℕ} {e at i : ℕ} → Seeking bs e at i → i < length bs → getD bs i 0 ≡ e → i ≡ at + length (before e (drop at bs))
 seeking-found {bs} {e} {at} {i} s h f = sym (s .is ∙ rw (drop-cons bs i 0 h, before-found e (getD bs i 0) (drop (suc i) bs) f) (add-zero i))
 
+-- another byte is here
 pub seeking-step : {bs : List ℕ} {e at i : ℕ} → Seeking bs e at i → i < length bs → (getD bs i 0 ≡ e → ⊥) → Seeking bs e at (i + 1)
 seeking-step {bs} {e} {at} {i} s h f = rw add-one (record {
   upto = h;
   is = s .is ∙ rw (drop-cons bs i 0 h, before-next e (getD bs i 0) (drop (suc i) bs) f) (omega arith);
 })
 
+-- there is none
 pub seeking-end : {bs : List ℕ} {e at i : ℕ} → Seeking bs e at i → length bs ≤ i → length bs ≡ at + length (before e (drop at bs))
 unfolding before
 seeking-end {bs} {e} {at} {i} s h = let u = s .upto in let q : i + 0 ≡ length bs = omega arith in sym (s .is ∙ rw (drop-of-length-le bs h) q)
@@ -67,6 +70,7 @@ before-short e (b ∷ bs) = go (before-short e bs) (either (eqb b e))
     go ih (inl t) = rw t (omega arith)
     go ih (inr t) = rw t (omega arith)
 
+-- and is its front
 before-take : (e : ℕ) (bs : List ℕ) → take (length (before e bs)) bs ≡ before e bs
 unfolding before
 before-take e [] = refl
@@ -113,9 +117,11 @@ lines-next (b ∷ bs) h = go bs (λ i. lines-next bs i) (either (eqb b 10))
 
 -- A PLACE that `find` answers: the part that ends there, and what follows
 module _ (e : ℕ) (bs : List ℕ) (at end : ℕ) (up : at ≤ length bs) (is : end ≡ at + length (before e (drop at bs))) where
+  -- it lies in the text,
   pub found-within : end ≤ length bs
   found-within = let s = before-short e (drop at bs) in let l = length-drop at bs in omega arith
 
+  -- the part is what stands before the byte,
   pub found-part : take (end - at) (drop at bs) ≡ before e (drop at bs)
   found-part = let n : end - at ≡ length (before e (drop at bs)) = omega arith in ap (λ k. take k (drop at bs)) n ∙ before-take e (drop at bs)
 
@@ -123,11 +129,13 @@ module _ (e : ℕ) (bs : List ℕ) (at end : ℕ) (up : at ≤ length bs) (is : 
   found-rest : drop (suc (length (before e (drop at bs)))) (drop at bs) ≡ drop (end + 1) bs
   found-rest = let n : at + suc (length (before e (drop at bs))) ≡ end + 1 = omega arith in drop-drop (suc (length (before e (drop at bs)))) at bs ∙ ap (λ k. drop k bs) n
 
+  -- a part and the others
   pub found-more : (rest : List (List ℕ)) → end < length bs → parts e rest (drop at bs) ≡ take (end - at) (drop at bs) ∷ parts e rest (drop (end + 1) bs)
   found-more rest h =
       let l = length-drop at bs in
       parts-more e rest (drop at bs) (omega arith) ∙ rw (found-part, found-rest) refl
 
+  -- the only part
   pub found-last : end ≡ length bs → parts e ([] ∷ []) (drop at bs) ≡ take (end - at) (drop at bs) ∷ []
   found-last h = let l = length-drop at bs in parts-last e (drop at bs) (omega arith) ∙ rw found-part refl
 
@@ -148,28 +156,35 @@ fields-some bs = go (either (ltb (length (before 32 bs)) (length bs)))
 
 -- THE SPACES of a line, found one after the other
 module _ (line : List ℕ) (a : ℕ) (is-a : a ≡ 0 + length (before 32 (drop 0 line))) where
+  -- a line with no space is bad
   pub no-space : a ≡ length line → id-line line ≡ none
   unfolding id-line
   no-space h = ap three-ids (found-last 32 line 0 a (omega arith) is-a h)
 
+  -- where one was found
   pub space-in : (a ≡ length line → ⊥) → a < length line
   space-in n = let w = found-within 32 line 0 a (omega arith) is-a in omega arith
 
+  -- the field before it
   first-field : a < length line → fields line ≡ take a line ∷ fields (drop (a + 1) line)
   first-field h = let z : a - 0 ≡ a = omega arith in found-more 32 line 0 a (omega arith) is-a ([] ∷ []) h ∙ rw z refl
 
   module _ (h : a < length line) (b : ℕ) (is-b : b ≡ a + 1 + length (before 32 (drop (a + 1) line))) where
+    -- a line with one space is bad
     pub one-space : b ≡ length line → id-line line ≡ none
     unfolding id-line
     one-space e = ap three-ids (first-field h ∙ ap (λ fs. take a line ∷ fs) (found-last 32 line (a + 1) b (omega arith) is-b e))
 
+    -- where a second was found
     pub second-in : (b ≡ length line → ⊥) → b < length line
     second-in n = let w = found-within 32 line (a + 1) b (omega arith) is-b in omega arith
 
+    -- the two fields before it
     two-fields : b < length line → fields line ≡ take a line ∷ take (b - (a + 1)) (drop (a + 1) line) ∷ fields (drop (b + 1) line)
     two-fields i = first-field h ∙ ap (λ fs. take a line ∷ fs) (found-more 32 line (a + 1) b (omega arith) is-b ([] ∷ []) i)
 
     module _ (i : b < length line) (d : ℕ) (is-d : d ≡ b + 1 + length (before 32 (drop (b + 1) line))) where
+      -- a line with a third space is bad
       pub three-spaces : d < length line → id-line line ≡ none
       unfolding id-line
       three-spaces l =
@@ -178,6 +193,7 @@ module _ (line : List ℕ) (a : ℕ) (is-a : a ≡ 0 + length (before 32 (drop 0
           let all : fields line ≡ take a line ∷ part line (a + 1) b ∷ part line (b + 1) d ∷ s .0 ∷ s .1 = two-fields i ∙ rw (more, s .2) refl in
           ap three-ids all
 
+      -- a line with two spaces has three fields
       pub two-spaces : length line ≤ d → TwoSpaces line a b
       two-spaces l =
           let w = found-within 32 line (b + 1) d (omega arith) is-d in
@@ -189,36 +205,46 @@ module _ (line : List ℕ) (a : ℕ) (is-a : a ≡ 0 + length (before 32 (drop 0
 pub told-two : {line : List ℕ} {r : Spaces} {a b : ℕ} → r ≡ Two a b → SpacesOf line r → TwoSpaces line a b
 told-two {line} e s = subst (λ x. SpacesOf line x) e s
 
+-- another number of spaces
 pub told-other : (line : List ℕ) {r : Spaces} → r ≡ Other → SpacesOf line r → id-line line ≡ none
 told-other line e s = subst (λ x. SpacesOf line x) e s
 
+-- a number
 pub told-number : {r : Field} {n : ℕ} {o : Option ℕ} → r ≡ Number n → number-of r ≡ o → o ≡ some n
 told-number e s = sym s ∙ ap number-of e
 
+-- no number
 pub told-none : {r : Field} {o : Option ℕ} → r ≡ No-number → number-of r ≡ o → o ≡ none
 told-none e s = sym s ∙ ap number-of e
 
 -- THE IDS of a line with two spaces: none where a field is no number, and else the three
 module _ {line : List ℕ} {a b : ℕ} (t : TwoSpaces line a b) where
+  -- its three fields decide
   id-line-is : id-line line ≡ three-ids (take a line ∷ part line (a + 1) b ∷ part line (b + 1) (length line) ∷ [])
   unfolding id-line
   id-line-is = ap three-ids (t .are)
 
+  -- the first is no id
   pub first-bad : id (take a line) ≡ none → id-line line ≡ none
   first-bad e = id-line-is ∙ rw e refl
 
+  -- the second is none
   pub second-bad : {s : ℕ} → id (take a line) ≡ some s → id (part line (a + 1) b) ≡ none → id-line line ≡ none
   second-bad e f = id-line-is ∙ rw (e, f) refl
 
+  -- the third is none
   pub third-bad : {s p : ℕ} → id (take a line) ≡ some s → id (part line (a + 1) b) ≡ some p → id (part line (b + 1) (length line)) ≡ none → id-line line ≡ none
   third-bad e f g = id-line-is ∙ rw (e, f, g) refl
 
+  -- all three are ids
   pub all-good : {s p o : ℕ} → id (take a line) ≡ some s → id (part line (a + 1) b) ≡ some p → id (part line (b + 1) (length line)) ≡ some o → id-line line ≡ some (s ∷ p ∷ o ∷ [])
   all-good e f g = id-line-is ∙ rw (e, f, g) refl
 
+-- three ids, as the caller sees them
 pub told-ids : {r : Line} {s p o : ℕ} {is : Option (List ℕ)} → r ≡ Ids s p o → ids-of r ≡ is → is ≡ some (s ∷ p ∷ o ∷ [])
 told-ids e s = sym s ∙ ap ids-of e
 
+-- another shape, as the caller sees it
 pub told-no-ids : {r : Line} {is : Option (List ℕ)} → r ≡ No-ids → ids-of r ≡ is → is ≡ none
 told-no-ids e s = sym s ∙ ap ids-of e
 
@@ -227,6 +253,7 @@ parse-bad : {text old : List ℕ} (n : ℕ) (is : List ℕ) (j : ℕ) {new : Lis
 unfolding parse
 parse-bad {text} {old} n is j {new} e k = record { answer = rw e refl; ids = k ∙ ap (λ r. sets old 0 (r .ids)) (sym e); few = omega arith }
 
+-- an input without a bad line
 parse-good : {text old : List ℕ} (n k : ℕ) {new : List ℕ} → read text ≡ reading n (take (3 * k) new) none → new ≡ sets old 0 (take (3 * k) new) → k ≤ 1000 → ParseOf text old (Input n k) new
 unfolding parse
 parse-good {text} {old} n k {new} e kept few = record { answer = rw e refl; ids = kept ∙ ap (λ r. sets old 0 (r .ids)) (sym e); few = few }
@@ -252,6 +279,7 @@ pub record LinesRead (text old : List ℕ) (n : ℕ) (new : List ℕ) (end k : �
   pub kept : new ≡ sets old 0 (take (3 * k) new)
   pub left : read text ≡ id-lines n (k + 2) (take (3 * k) new) (lines (drop (end + 1) text))
 
+-- the count was read, and no id line
 pub lines-start : (text old : List ℕ) (first n : ℕ) → 3000 ≤ length old → first ≡ 0 + length (before 10 (drop 0 text)) → count-line (take first text) ≡ some n → LinesRead text old n old first 0
 unfolding read
 lines-start text old first n room is e = record {
@@ -270,6 +298,7 @@ lines-start text old first n room is e = record {
     go (b ∷ bs) first is e = ap read-lines (first-line (b ∷ bs) first (omega arith) is) ∙ rw e refl
 
 module _ {text old : List ℕ} {n : ℕ} {new : List ℕ} {end k : ℕ} (c : LinesRead text old n new end k) where
+  -- the buffer keeps its length
   pub lines-length : length new ≡ length old
   lines-length = ap length (c .kept) ∙ length-sets old 0 (take (3 * k) new)
 
@@ -279,9 +308,11 @@ module _ {text old : List ℕ} {n : ℕ} {new : List ℕ} {end k : ℕ} (c : Lin
   lines-end h = parse-good n k (c .left ∙ rw (drop-of-length-le text h) refl) (c .kept) (c .few)
 
   module _ (h : end + 1 < length text) (next : ℕ) (is : next ≡ end + 1 + length (before 10 (drop (end + 1) text))) where
+    -- the next line and those after it
     one-more : read text ≡ id-lines n (k + 2) (take (3 * k) new) (part text (end + 1) next ∷ lines (drop (next + 1) text))
     one-more = c .left ∙ rw (found-line text (end + 1) next h is) refl
 
+    -- line 1,002
     one-too-many : k ≡ 1000 → ParseOf text old (Bad 1002) new
     unfolding id-lines
     one-too-many e = parse-bad n (take (3 * k) new) 1002 (one-more ∙ rw e refl) (c .kept)
@@ -322,8 +353,10 @@ module _ {text old : List ℕ} {n : ℕ} {new : List ℕ} {end k : ℕ} (c : Lin
 pub told-bad : {text old : List ℕ} {r : Answer} {k : ℕ} {new : List ℕ} → r ≡ Bad k → ParseOf text old r new → parse text ≡ bad-line k
 told-bad {new = new} e c = sym (c .answer) ∙ ap (λ x. parsed-of x new) e
 
+-- the count and the ids
 pub told-input : {text old : List ℕ} {r : Answer} {n k : ℕ} {new : List ℕ} → r ≡ Input n k → ParseOf text old r new → parse text ≡ input n (take (3 * k) new)
 told-input {new = new} e c = sym (c .answer) ∙ ap (λ x. parsed-of x new) e
 
+-- at most 1,000 id lines
 pub told-few : {text old : List ℕ} {r : Answer} {n k : ℕ} {new : List ℕ} → r ≡ Input n k → ParseOf text old r new → k ≤ 1000
 told-few e c = subst (λ x. lines-of x ≤ 1000) e (c .few)

@@ -5,10 +5,12 @@ use Prim.Native.Nat.{ℕ, zero, suc, _+_, _-_, _*_, _/_, _%_, _^_, _≤_, _<_}
 use native.Mathlib.Nat.{add-suc, add-zero, zero-add, mul-zero, mul-suc, mul-le-mul-left}
 use native.Mathlib.Numerals.{add-one}
 use native.Mathlib.Omega.{arith}
-use lib.ListN.{length, getD, take, drop, set, length-append, length-set, length-take, length-drop, drop-of-length-le}
-use lib.Seq.{sets, sets-eq, length-sets, length-take-le, take-at, take-suc, drop-cons, drop-drop, take-all, getD-take, getD-drop, drop-nil, take-length}
+use lib.ListN.{replicate, length, getD, take, drop, set, length-append, length-set, length-take, length-drop, drop-of-length-le}
+use lib.Seq.{sets, sets-eq, length-sets, length-take-le, take-at, take-suc, drop-cons, drop-drop, take-all, getD-drop}
+use Rattle.common.specs.Triples.{Triple, Finding, concat-map}
+use Rattle.common.specs.Rows.{flat, flat-findings, filled}
 use Rattle.closer_input.specs.Decimal.{digits}
-use Rattle.closer_input.specs.Output.{ending, line, table, answer}
+use Rattle.closer_input.specs.Output.{ending, line, table, printed, answer}
 use Rattle.closer_input.specs.Contracts.{part, Wrote, TableFits, AnswerFits}
 use Rattle.closer_input.proofs.Numerals.{digits-one, digits-more, few-digits}
 
@@ -24,6 +26,7 @@ take-sets l i vs h =
     let b = length-take-le i l (omega arith) in
     ap (λ x. take (i + length vs) x) (sets-eq vs l i h) ∙ take-at (take i l ++ vs) (drop (i + length vs) l) (i + length vs) (omega arith)
 
+-- the buffer keeps its length
 pub wrote-length : {old : List ℕ} {at : ℕ} {bytes new : List ℕ} {next : ℕ} → Wrote old at bytes new next → length new ≡ length old
 wrote-length {old} {at} {bytes} w = ap length (w .out) ∙ length-sets old at bytes
 
@@ -31,6 +34,7 @@ wrote-length {old} {at} {bytes} w = ap length (w .out) ∙ length-sets old at by
 pub wrote-none : (old : List ℕ) (at : ℕ) → at ≤ length old → Wrote old at [] old at
 wrote-none old at h = record { out = refl; end = sym (add-zero at); within = h; front = sym (length-take-le at old h) }
 
+-- one byte
 pub wrote-byte : (old : List ℕ) (at b : ℕ) → at < length old → Wrote old at (b ∷ []) (set old at b) (at + 1)
 wrote-byte old at b h = let i : at + 1 ≤ length (set old at b) = simp length-set (omega arith) in record { out = refl; end = refl; within = i; front = sym (length-take-le (at + 1) (set old at b) i) }
 
@@ -55,9 +59,11 @@ wrote-front {old} {bytes} {new} {next} w =
 pub length-one : (n : ℕ) → n < 10 → length (digits n) ≡ 1
 length-one n h = ap length (digits-one n h)
 
+-- how long the digits are
 pub length-more : (n : ℕ) → 10 ≤ n → length (digits n) ≡ length (digits (n / 10)) + 1
 length-more n h = ap length (digits-more n h) ∙ simp length-append
 
+-- a number of one digit
 pub wrote-one : (n : ℕ) (out : List ℕ) (at : ℕ) → n < 10 → at + length (digits n) ≤ length out → Wrote out at (digits n) (set out at (48 + n)) (at + 1)
 wrote-one n out at h f = let e = length-one n h in rw (digits-one n h) (wrote-byte out at (48 + n) (omega arith))
 
@@ -65,6 +71,7 @@ wrote-one n out at h f = let e = length-one n h in rw (digits-one n h) (wrote-by
 pub last-fits : (n : ℕ) {out b : List ℕ} {at last : ℕ} → 10 ≤ n → at + length (digits n) ≤ length out → Wrote out at (digits (n / 10)) b last → last < length b
 last-fits n h f w = let e = length-more n h in let l = wrote-length w in let k = w .end in omega arith
 
+-- the last digit after the others
 pub wrote-more : (n : ℕ) {out b : List ℕ} {at last : ℕ} → 10 ≤ n → at + length (digits n) ≤ length out → Wrote out at (digits (n / 10)) b last → Wrote out at (digits n) (set b last (48 + n % 10)) (last + 1)
 wrote-more n {out} {b} {at} {last} h f w = rw (digits-more n h) (wrote-then w (wrote-byte b last (48 + n % 10) (last-fits n h f w)))
 
@@ -73,22 +80,27 @@ pub record Copied (bytes old : List ℕ) (at : ℕ) (new : List ℕ) (i : ℕ) :
   pub upto : i ≤ length bytes
   pub wrote : Wrote old at (take i bytes) new (at + i)
 
+-- nothing was copied
 pub copied-start : (bytes old : List ℕ) (at : ℕ) → at + length bytes ≤ length old → Copied bytes old at old 0
 copied-start bytes old at h = record { upto = omega arith; wrote = rw (add-zero at) (wrote-none old at (omega arith)) }
 
 module _ {bytes old : List ℕ} {at : ℕ} {new : List ℕ} {i : ℕ} (fits : at + length bytes ≤ length old) (c : Copied bytes old at new i) where
+  -- the buffer keeps its length
   pub copied-length : length new ≡ length old
   copied-length = wrote-length (c .wrote)
 
+  -- there is room for the next byte
   pub copied-room : i < length bytes → at + i < length new
   copied-room h = let e = copied-length in omega arith
 
+  -- one byte more
   pub copied-step : i < length bytes → Copied bytes old at (set new (at + i) (getD bytes i 0)) (i + 1)
   copied-step h = record {
     upto = omega arith;
     wrote = rw (add-one i, take-suc bytes i 0 h, add-suc at i, ← add-one (at + i)) (wrote-then (c .wrote) (wrote-byte new (at + i) (getD bytes i 0) (copied-room h)));
   }
 
+  -- all of them
   pub copied-end : length bytes ≤ i → Wrote old at bytes new (at + i)
   copied-end h = rw take-all at (c .wrote)
 
@@ -97,6 +109,7 @@ pub ending-none : (others : ℕ) → others ≡ 0 → 10 ≡ ending others
 ending-none zero e = refl
 ending-none (suc n) e = absurd (omega arith)
 
+-- the byte where others follow
 pub ending-some : (others : ℕ) → (others ≡ 0 → ⊥) → 32 ≡ ending others
 ending-some zero f = absurd (f refl)
 ending-some (suc n) f = refl
@@ -105,6 +118,7 @@ ending-some (suc n) f = refl
 abbrev pub Words : List ℕ → Type 0
 Words ns = (k : ℕ) → getD ns k 0 < 2 ^ 32
 
+-- ten digits suffice for them
 pub short-digits : (n : ℕ) → n < 2 ^ 32 → length (digits n) ≤ 10
 short-digits n h = few-digits 9 n (omega arith)
 
@@ -116,13 +130,16 @@ pub record Lined (ns old : List ℕ) (at : ℕ) (new : List ℕ) (to i : ℕ) : 
   pub upto : i ≤ length ns
   pub room : to ≤ at + 11 * i
 
+-- nothing was written
 pub lined-start : (ns old : List ℕ) (at : ℕ) → at + 11 * length ns ≤ length old → Lined ns old at old at 0
 lined-start ns old at h = record { text = []; wrote = wrote-none old at (omega arith); left = refl; upto = omega arith; room = omega arith }
 
 module _ {ns old : List ℕ} {at : ℕ} {new : List ℕ} {to i : ℕ} (fits : at + 11 * length ns ≤ length old) (c : Lined ns old at new to i) where
+  -- the buffer keeps its length
   pub lined-length : length new ≡ length old
   lined-length = wrote-length (c .wrote)
 
+  -- the whole line
   pub lined-end : length ns ≤ i → Wrote old at (line ns) new to
   unfolding line
   lined-end h = let e : c .text ≡ line ns = sym (append-nil (c .text)) ∙ (rw (drop-of-length-le ns h) at (c .left)) in rw (← e) (c .wrote)
@@ -143,6 +160,7 @@ module _ {ns old : List ℕ} {at : ℕ} {new : List ℕ} {to i : ℕ} (fits : at
           let g = w .end in
           omega arith
 
+      -- one number more, with the byte after it
       pub lined-step : {b : ℕ} → b ≡ ending (length ns - (i + 1)) → Lined ns old at (set after end b) (end + 1) (i + 1)
       unfolding line
       lined-step e = rw e (record {
@@ -157,6 +175,7 @@ module _ {ns old : List ℕ} {at : ℕ} {new : List ℕ} {to i : ℕ} (fits : at
 words-drop : (n : ℕ) (ns : List ℕ) → Words ns → Words (drop n ns)
 words-drop n ns f k = rw (getD-drop n ns k 0) (f (n + k))
 
+-- the front of one,
 words-take : (n : ℕ) (ns : List ℕ) → Words ns → Words (take n ns)
 words-take zero ns f k = omega arith
 words-take (suc n) [] f k = omega arith
@@ -185,6 +204,7 @@ pub record Tabled (ns : List ℕ) (w rows : ℕ) (old : List ℕ) (at : ℕ) (ne
   pub upto : i ≤ rows
   pub room : to ≤ at + 11 * start
 
+-- nothing was written
 pub tabled-start : {ns : List ℕ} {w rows : ℕ} {old : List ℕ} {at : ℕ} → TableFits ns w rows old at → Tabled ns w rows old at old at 0 0
 tabled-start {ns} {w} {rows} {old} {at} f = record {
   text = [];
@@ -196,9 +216,11 @@ tabled-start {ns} {w} {rows} {old} {at} f = record {
 }
 
 module _ {ns : List ℕ} {w rows : ℕ} {old : List ℕ} {at : ℕ} {new : List ℕ} {to start i : ℕ} (f : TableFits ns w rows old at) (c : Tabled ns w rows old at new to start i) where
+  -- the buffer keeps its length
   pub tabled-length : length new ≡ length old
   tabled-length = wrote-length (c .wrote)
 
+  -- the whole table
   pub tabled-end : rows ≤ i → Wrote old at (table w rows ns) new to
   unfolding table
   tabled-end h =
@@ -211,9 +233,11 @@ module _ {ns : List ℕ} {w rows : ℕ} {old : List ℕ} {at : ℕ} {new : List 
     pub tabled-row : start + w ≤ length ns
     tabled-row = let a = rows-apart w i rows h in let p = c .place in let g = f .held in omega arith
 
+    -- it has w numbers
     part-length : length (part ns start (start + w)) ≡ w
     part-length = let g = tabled-row in let d = length-drop start ns in simp length-take (omega arith)
 
+    -- there is room for its line
     pub tabled-fits : to + 11 * length (part ns start (start + w)) ≤ length new
     tabled-fits =
         let a = rows-apart w i rows h in
@@ -224,6 +248,7 @@ module _ {ns : List ℕ} {w rows : ℕ} {old : List ℕ} {at : ℕ} {new : List 
         let n = part-length in
         omega arith
 
+    -- one row more
     pub tabled-step : {after : List ℕ} {next : ℕ} → Words ns → Wrote new to (line (part ns start (start + w))) after next → Tabled ns w rows old at after next (start + w) (i + 1)
     unfolding table
     tabled-step q v = record {
@@ -245,6 +270,7 @@ module _ {ns : List ℕ} {w rows : ℕ} {old : List ℕ} {at : ℕ} {new : List 
 
 -- THE OUTPUTS. A number after a word:
 module _ {old : List ℕ} {at : ℕ} {word b : List ℕ} {m : ℕ} (n : ℕ) (h : n < 2 ^ 32) (w : Wrote old at word b m) where
+  -- there is room for the number
   pub number-fits : at + length word + 10 ≤ length old → m + length (digits n) ≤ length b
   number-fits f = let s = short-digits n h in let e = w .end in let l = wrote-length w in omega arith
 
@@ -277,6 +303,7 @@ head-words t r h i (suc (suc (suc k))) = omega arith
 
 module _ {store : List ℕ} {triples : ℕ} {findings : List ℕ} {records : ℕ} {old : List ℕ} (f : AnswerFits store triples findings records old)
     (h : triples < 2 ^ 32) (i : records < 2 ^ 32) {b : List ℕ} {m : ℕ} (w : Wrote old 0 (line (0 ∷ triples ∷ records ∷ [])) b m) where
+  -- there is room for the triples after the counts,
   pub triples-fit : TableFits store 3 triples b m
   triples-fit = record {
     held = f .stored;
@@ -288,6 +315,7 @@ module _ {store : List ℕ} {triples : ℕ} {findings : List ℕ} {records : ℕ
         omega arith;
   }
 
+  -- for the findings after them,
   pub findings-fit : {d : List ℕ} {n : ℕ} → Words store → Wrote b m (table 3 triples store) d n → TableFits findings 5 records d n
   findings-fit q v = record {
     held = f .found;
@@ -302,5 +330,23 @@ module _ {store : List ℕ} {triples : ℕ} {findings : List ℕ} {records : ℕ
         omega arith;
   }
 
+  -- and the three pieces are the answer
   pub answer-whole : {d : List ℕ} {n : ℕ} {c : List ℕ} {last : ℕ} → Wrote b m (table 3 triples store) d n → Wrote d n (table 5 records findings) c last → Wrote old 0 (answer store triples findings records) c last
   answer-whole u v = wrote-then w (wrote-then u v)
+
+-- A STORE that holds triples, and findings, as a run leaves them: the output is that of the triples and findings
+triples-table : (ts : List Triple) (rest : List ℕ) → table 3 (length ts) (flat ts ++ rest) ≡ concat-map ts (λ t. line (t .s ∷ t .p ∷ t .o ∷ []))
+unfolding table
+triples-table [] rest = refl
+triples-table (t ∷ ts) rest = ap (λ x. line (t .s ∷ t .p ∷ t .o ∷ []) ++ x) (triples-table ts rest)
+
+-- the lines of the findings
+findings-table : (fs : List Finding) (rest : List ℕ) → table 5 (length fs) (flat-findings fs ++ rest) ≡ concat-map fs (λ x. line (x .check ∷ x .a ∷ x .b ∷ x .c ∷ x .d ∷ []))
+unfolding table
+findings-table [] rest = refl
+findings-table (x ∷ fs) rest = ap (λ l. line (x .check ∷ x .a ∷ x .b ∷ x .c ∷ x .d ∷ []) ++ l) (findings-table fs rest)
+
+-- all of it
+pub answer-printed : (store findings : List ℕ) (ts : List Triple) (fs : List Finding) → answer (filled store (flat ts)) (length ts) (filled findings (flat-findings fs)) (length fs) ≡ printed ts fs
+answer-printed store findings ts fs =
+    rw (triples-table ts (replicate (length store - length (flat ts)) 0), findings-table fs (replicate (length findings - length (flat-findings fs)) 0)) refl

@@ -7,9 +7,9 @@ use Prim.Native.String.{String}
 use lib.ListN.{replicate}
 use Rattle.common.specs.Text.{text}
 use Rattle.closer_input.specs.Input.{Parsed, bad-line, input, parse}
-use Rattle.closer_input.specs.Output.{answer, refusal, name}
-use Rattle.closer_input.specs.Output.{bad-line as bad-line-text}
+use Rattle.closer_input.specs.Output.{answer, refusal, bad-line-text, name}
 
+-- a case of the table
 pub data Case : Type 0 where
   -- what an input gives
   read : String → Parsed → Case
@@ -23,15 +23,18 @@ abbrev pub ones : ℕ → List ℕ → List ℕ
 ones zero t = t
 ones (suc k) t = text "1 1 1\n" ++ ones k t
 
+-- a case is as the definitions have it
 abbrev pub Holds : Case → Type 0
 Holds (read s p) = parse (text s) ≡ p
 Holds (many k s p) = parse (text "0\n" ++ ones k (text s)) ≡ p
 Holds (print t s) = t ≡ text s
 
+-- so is each of the cases
 abbrev pub AllHold : List Case → Type 0
 AllHold [] = Unit {0}
 AllHold (x ∷ xs) = Holds x × AllHold xs
 
+-- the table
 abbrev pub cases : List Case
 cases =
     -- the worked example; its last line may lack the line feed

@@ -1,4 +1,5 @@
--- What the functions promise: a definition for each case of an answer, and a record for each contract of several parts. Assumes nothing.
+-- What the functions promise: a definition for each answer that is an enum, and a record for each contract of several parts. `sets l i vs`,
+-- of the library, is l with vs stored from place i on. Assumes nothing.
 use mathlib.Core.Path.{_≡_}
 use mathlib.Core.Option.{Option, some, none}
 use mathlib.Core.List.{List, [], _∷_}
@@ -15,6 +16,7 @@ use Rattle.closer_input.specs.declared.input.Line.the-variants.{Ids, Bad
 use Rattle.closer_input.specs.declared.input.Parsed.{Parsed as Answer}
 use Rattle.closer_input.specs.declared.input.Parsed.the-variants.{Bad, Input}
 
+-- the answer of `number`, none where the bytes are no number
 abbrev pub number-of : Field → Option ℕ
 number-of (Number n) = some n
 number-of No-number = none
@@ -29,10 +31,12 @@ pub record TwoSpaces (line : List ℕ) (a b : ℕ) : Type 0 where
   pub within : b < length line
   pub are : fields line ≡ take a line ∷ part line (a + 1) b ∷ part line (b + 1) (length line) ∷ []
 
+-- `two_spaces`: the places of both spaces, or that the line has another shape
 abbrev pub SpacesOf : List ℕ → Spaces → Type 0
 SpacesOf line (Two a b) = TwoSpaces line a b
 SpacesOf line Other = id-line line ≡ none
 
+-- the answer of `ids_of_line`, none where the line has another shape
 abbrev pub ids-of : Line → Option (List ℕ)
 ids-of (Ids s p o) = some (s ∷ p ∷ o ∷ [])
 ids-of No-ids = none

@@ -32,6 +32,7 @@ lines = parts 10 []
 abbrev pub fields : List ℕ → List (List ℕ)
 fields = parts 32 ([] ∷ [])
 
+-- by cases on what may be missing
 abbrev pub on : {A B : Type 0} → Option A → (A → B) → (Unit {0} → B) → B
 on (some a) f g = f a
 on none f g = g tt
@@ -40,6 +41,7 @@ on none f g = g tt
 abbrev pub id : List ℕ → Option ℕ
 id = number 4294967295
 
+-- three fields, and each of them an id
 abbrev pub three-ids : List (List ℕ) → Option (List ℕ)
 three-ids [] = none
 three-ids (a ∷ []) = none
@@ -61,6 +63,7 @@ pub record Reading : Type 0 where
   pub ids : List ℕ
   pub bad : Option ℕ
 
+-- the three together
 abbrev pub reading : ℕ → List ℕ → Option ℕ → Reading
 reading n is k = record { count = n; ids = is; bad = k }
 
@@ -75,6 +78,7 @@ abbrev pub read-lines : List (List ℕ) → Reading
 read-lines [] = reading 0 [] (some 1)
 read-lines (l ∷ ls) = on (count-line l) (λ n. id-lines n 2 [] ls) (λ _. reading 0 [] (some 1))
 
+-- the whole text
 unfoldable pub read : List ℕ → Reading
 read bs = read-lines (lines bs)
 
@@ -83,8 +87,10 @@ pub data Parsed : Type 0 where
   bad-line : ℕ → Parsed
   input : ℕ → List ℕ → Parsed
 
+-- what was read decides
 abbrev pub parsed : Reading → Parsed
 parsed r = on (r .bad) (λ k. bad-line k) (λ _. input (r .count) (r .ids))
 
+-- WHAT AN INPUT SAYS
 unfoldable pub parse : List ℕ → Parsed
 parse bs = parsed (read bs)

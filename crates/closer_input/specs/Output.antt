@@ -5,6 +5,7 @@ use mathlib.Core.List.{List, [], _∷_, _++_}
 use Prim.Native.Nat.{ℕ, zero, suc}
 use lib.ListN.{length, take, drop}
 use Rattle.common.specs.Text.{text}
+use Rattle.common.specs.Triples.{Triple, Finding, concat-map}
 use Rattle.closer_input.specs.Decimal.{digits}
 
 -- the byte after a number of a line: a space where others follow it, the line feed where none does
@@ -22,7 +23,12 @@ unfoldable pub table : ℕ → ℕ → List ℕ → List ℕ
 table w zero ns = []
 table w (suc k) ns = line (take w ns) ++ table w k (drop w ns)
 
--- an accepted run
+-- what an accepted run prints, of its triples and findings
+abbrev pub printed : List Triple → List Finding → List ℕ
+printed ts fs =
+    line (0 ∷ length ts ∷ length fs ∷ []) ++ (concat-map ts (λ t. line (t .s ∷ t .p ∷ t .o ∷ [])) ++ concat-map fs (λ x. line (x .check ∷ x .a ∷ x .b ∷ x .c ∷ x .d ∷ [])))
+
+-- the same, of a store and findings that hold so many rows; proofs/Writing.antt shows that it is (answer-printed)
 abbrev pub answer : List ℕ → ℕ → List ℕ → ℕ → List ℕ
 answer store triples findings records = line (0 ∷ triples ∷ records ∷ []) ++ (table 3 triples store ++ table 5 records findings)
 
@@ -30,8 +36,9 @@ answer store triples findings records = line (0 ∷ triples ∷ records ∷ []) 
 abbrev pub refusal : ℕ → List ℕ
 refusal n = line (n ∷ 0 ∷ 0 ∷ [])
 
-abbrev pub bad-line : ℕ → List ℕ
-bad-line k = text "bad line " ++ (digits k ++ (10 ∷ []))
+-- the first bad line's number, as "bad line 2"
+abbrev pub bad-line-text : ℕ → List ℕ
+bad-line-text k = text "bad line " ++ (digits k ++ (10 ∷ []))
 
 -- the n-th named node that the program puts
 abbrev pub name : ℕ → List ℕ

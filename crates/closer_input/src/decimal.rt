@@ -5,6 +5,7 @@ ghost use lib.ListN.{length};
 ghost use Rattle.closer_input.specs.Decimal.{number as decimal·number, digits};
 ghost use Rattle.closer_input.specs.Contracts.{number-of, Wrote};
 
+// The number of a field, if it is one.
 pub enum Field {
     Number(u32),
     Bad,

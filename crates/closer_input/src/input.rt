@@ -16,6 +16,9 @@ const TERMS: u32 = 500;
 // At most so many id lines.
 const LINES: usize = 1000;
 
+// How many ids they have.
+pub const IDS: usize = 3 * LINES;
+
 // One byte more than the longest good input has, which is 4 bytes for the count and 33 for each id line: so many decide as much as the
 // whole input (proofs/Longest.antt, parse-cut).
 pub const INPUT: usize = 33005;

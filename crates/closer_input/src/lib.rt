@@ -3,9 +3,13 @@ pub mod decimal; // decimal.rt: one number, read and written
 pub mod input; // input.rt: the count and the id lines
 pub mod output; // output.rt: lines of numbers, and the program's four outputs
 
+pub use input::IDS;
 pub use input::INPUT;
 pub use input::Parsed;
 pub use input::parse;
+pub use output::FINDINGS;
+pub use output::OUTPUT;
+pub use output::STORE;
 pub use output::print_answer;
 pub use output::print_bad_line;
 pub use output::print_name;

@@ -2,12 +2,17 @@
 use crate::decimal::put_number;
 ghost use mathlib.Core.Path.{_≡_};
 ghost use Prim.Native.Nat.{_+_, _*_, _≤_};
-ghost use mathlib.Core.List.{List, [], _∷_, _++_};
 ghost use lib.ListN.{length};
-ghost use Rattle.common.specs.Text.{text};
-ghost use Rattle.closer_input.specs.Decimal.{digits};
-ghost use Rattle.closer_input.specs.Output.{ending as Output·ending, line, table, answer, refusal, bad-line, name};
+ghost use Rattle.closer_input.specs.Output.{ending as Output·ending, line, table, answer, refusal, bad-line-text, name};
 ghost use Rattle.closer_input.specs.Contracts.{Wrote, TableFits, AnswerFits};
+
+// How many numbers the program's store of 2,000 triples and its findings of 400 records hold.
+pub const STORE: usize = 3 * 2000;
+
+pub const FINDINGS: usize = 5 * 400;
+
+// Room to print all of them: ten digits and one byte more for a number, and a line of three for the counts.
+pub const OUTPUT: usize = 33 + 11 * (STORE + FINDINGS);
 
 // Writes the bytes from place `at` on, and answers the place after them.
 pub fn put_bytes(bytes: &[u8], out: &mut [u8], at: usize) -> usize
@@ -91,7 +96,7 @@ pub fn print_refusal(number: u32, out: &mut [u8]) -> usize
 // The first bad line.
 pub fn print_bad_line(number: u32, out: &mut [u8]) -> usize
     requires { ⌜ 20 ≤ length (now out) ⌝ }
-    ensures { λ r. ⌜ Wrote (now (out .entry)) 0 (bad-line number) (now (out .exit)) r ⌝ }
+    ensures { λ r. ⌜ Wrote (now (out .entry)) 0 (bad-line-text number) (now (out .exit)) r ⌝ }
 {
     let start = put_bytes(b"bad line ", &mut *out, 0);
     let end = put_number(number, &mut *out, start);

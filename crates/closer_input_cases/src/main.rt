@@ -15,7 +15,7 @@ ghost use Rattle.closer_input_cases.specs.Outcome.{bad-of};
 fn tried(input: &[u8]) -> u32
     ensures { λ r. ⌜ r ≡ bad-of (parse (now (input .entry))) ⌝ }
 {
-    let mut ids = [0u32; 3000];
+    let mut ids = [0u32; closer_input::IDS];
     let mut out = [0u8; 33000];
     let parsed = closer_input::parse(input, &mut ids);
     match parsed {
@@ -73,7 +73,7 @@ fn bad_id_lines() {
 
 // Prints the count of an input and how many id lines it has, or its first bad line.
 fn counted(input: &[u8]) {
-    let mut ids = [0u32; 3000];
+    let mut ids = [0u32; closer_input::IDS];
     let mut out = [0u8; 33];
     let parsed = closer_input::parse(input, &mut ids);
     match parsed {

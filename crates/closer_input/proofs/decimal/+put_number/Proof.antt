@@ -1,8 +1,7 @@
 -- `decimal::put_number` meets its contract. The measure is the number, which each call divides by ten. Assumes nothing.
 use Prim.Native.Nat.{ℕ, _<_}
-use mathlib.Core.Path.{_≡_, sym, _∙_}
 use native.Mathlib.Omega.{arith}
-use lib.ListN.{length, length-set}
+use lib.ListN.{length-set}
 use borrow.Author.Needs.{needs}
 use borrow.Fn.Kinds.{In}
 use borrow.Fn.PlainCycle.{Measures, is, falls, and}
@@ -58,7 +57,9 @@ put-number-add-out-2 t c = omega arith
 put-number-slice-write-out-2 : (t : ℕ) → put-number-lts.Need-slice-write-out-2 (put-number-below t, put-number.Post) (put-number-at t) put-number.Post
 put-number-slice-write-out-2 t c =
     let z = c .before .before .before .before .before .before in
-    last-fits (z .args .n) (c .before .before .before .before .if1 .left) (z .pre .1) (c .before .before .put-number .ensures)
+    let f = last-fits (z .args .n) (c .before .before .before .before .if1 .left) (z .pre .1) (c .before .before .put-number .ensures) in
+    let e = c .before .before .put-number .ensures .end in
+    omega arith
 
 put-number-add-result-2 : (t : ℕ) → put-number-lts.Need-add-result-2 (put-number-below t, put-number.Post) (put-number-at t) put-number.Post
 put-number-add-result-2 t c =

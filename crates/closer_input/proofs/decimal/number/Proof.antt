@@ -1,14 +1,12 @@
-use Prim.Native.Nat.{ℕ, _+_, _*_, _≤_, _<_, _-_}
-use mathlib.Core.Path.{_≡_, sym, ap, _∙_}
-use mathlib.Core.List.{_++_}
-use lib.ListN.{length, drop, take, set, getD, length-set, length-drop}
+-- `decimal::number` meets its contract. Assumes nothing.
+use Prim.Native.Nat.{_-_}
+use mathlib.Core.Path.{sym}
 use native.Mathlib.Omega.{arith}
-use Rattle.closer_input.proofs.Numerals.{number-empty, number-zero, Counted, counted-start, counted-low, counted-high, counted-over, counted-step, counted-end, zero-led, leads, leads-not}
+use lib.ListN.{length}
 use borrow.Author.Needs.{needs}
+use Rattle.closer_input.proofs.Numerals.{number-empty, number-zero, Counted, counted-start, counted-low, counted-high, counted-over, counted-step, counted-end, zero-led, leads, leads-not}
 use Rattle.closer_input.proofs.decimal.number.Statement.{statement}
 use Rattle.closer_input.proofs.decimal.number.Tie as tie
-use Rattle.closer_input.proofs.decimal.number.Reads as reads
-use Rattle.closer_input.proofs.decimal.number.Lts as lts
 
 abbrev Inv-loop : tie.InvT-loop
 Inv-loop bytes most value₀ i₀ value i =
@@ -17,71 +15,54 @@ Inv-loop bytes most value₀ i₀ value i =
 abbrev μ-loop : tie.MeasureT-loop
 μ-loop bytes most value₀ i₀ value i = length bytes - i
 
--- src/decimal.rt:18:9
 returns : tie.Need-returns Inv-loop μ-loop
 returns c = let z = c .before in sym (number-empty (z .args .most) (z .args .bytes .now) (c .if1 .taken))
 
--- src/decimal.rt:20:8
 shared-slice-read-if2 : tie.Need-shared-slice-read-if2 Inv-loop μ-loop
 shared-slice-read-if2 c = search needs
 
--- src/decimal.rt:22:13
 returns-2 : tie.Need-returns-2 Inv-loop μ-loop
-returns-2 c = let z = c .before .before .before .before in sym (zero-led (z .args .most) (z .args .bytes .now) (leads (z .args .bytes .now) (c .before .if2 .taken) (c .if3 .taken)))
+returns-2 c = let z = c .before .before .before .before in sym (zero-led (z .args .most) (z .args .bytes .now) (leads (z .args .bytes .now) (c .before .if2 .taken) (omega arith)))
 
--- src/decimal.rt:24:9
 returns-3 : tie.Need-returns-3 Inv-loop μ-loop
-returns-3 c = let z = c .before .before .before .before in sym (number-zero (z .args .most) (z .args .bytes .now) (c .before .if2 .taken) (c .if3 .left))
+returns-3 c = let z = c .before .before .before .before in sym (number-zero (z .args .most) (z .args .bytes .now) (c .before .if2 .taken) (omega arith))
 
--- src/decimal.rt:28:5
 loop-holds : tie.Need-loop-holds Inv-loop μ-loop
 loop-holds c = let z = c .before .before .before in counted-start (z .args .bytes .now) (z .args .most)
 
--- src/decimal.rt:29:17
 shared-slice-read-b : tie.Need-shared-slice-read-b Inv-loop μ-loop
 shared-slice-read-b c = search needs
 
--- src/decimal.rt:31:13
 returns-4 : tie.Need-returns-4 Inv-loop μ-loop
 returns-4 c = let w = c .before .before .before in sym (counted-low (w .loop .inv) (c .before .before .loop-test .taken) (c .if4 .taken))
 
--- src/decimal.rt:34:13
 returns-5 : tie.Need-returns-5 Inv-loop μ-loop
 returns-5 c = let w = c .before .before .before .before in sym (counted-high (w .loop .inv) (c .before .before .before .loop-test .taken) (c .before .if4 .left) (c .if5 .taken))
 
--- src/decimal.rt:36:17
 mul-value : tie.Need-mul-value Inv-loop μ-loop
 mul-value c = search needs
 
--- src/decimal.rt:36:30
 cast-value : tie.Need-cast-value Inv-loop μ-loop
 cast-value c = search needs
 
--- src/decimal.rt:36:17
 add-value : tie.Need-add-value Inv-loop μ-loop
 add-value c = search needs
 
--- src/decimal.rt:38:13
 returns-6 : tie.Need-returns-6 Inv-loop μ-loop
-returns-6 c = let w = c .before .before .before .before .before in sym (counted-over (w .loop .inv) (c .before .before .before .before .loop-test .taken) (c .if6 .taken))
+returns-6 c = let w = c .before .before .before .before .before in sym (counted-over (w .loop .inv) (c .before .before .before .before .loop-test .taken) (omega arith))
 
--- src/decimal.rt:40:9
 add-i : tie.Need-add-i Inv-loop μ-loop
 add-i c = search needs
 
--- src/decimal.rt:28:5
 loop-less : tie.Need-loop-less Inv-loop μ-loop
 loop-less c = search needs
 
--- src/decimal.rt:28:5
 loop-again : tie.Need-loop-again Inv-loop μ-loop
-loop-again c = let w = c .before .before .before .before .before in counted-step (w .loop .inv) (c .before .before .before .before .loop-test .taken) (c .before .before .if4 .left) (c .before .if5 .left) (c .if6 .left)
+loop-again c = let w = c .before .before .before .before .before in counted-step (w .loop .inv) (c .before .before .before .before .loop-test .taken) (c .before .before .if4 .left) (c .before .if5 .left) (omega arith)
 
--- src/decimal.rt:42:19
 cast-t18 : tie.Need-cast-t18 Inv-loop μ-loop
 cast-t18 c = search needs
 
--- src/decimal.rt:14:1
 returns-7 : tie.Need-returns-7 Inv-loop μ-loop
 returns-7 c =
     let z = c .before .before .before .before .before in

@@ -1,6 +1,5 @@
 -- `input::find` meets its contract. Assumes nothing.
 use Prim.Native.Nat.{_-_}
-use native.Mathlib.Omega.{arith}
 use lib.ListN.{length}
 use borrow.Author.Needs.{needs}
 use Rattle.closer_input.proofs.Reading.{Seeking, seeking-start, seeking-found, seeking-step, seeking-end}

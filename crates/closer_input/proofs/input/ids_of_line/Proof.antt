@@ -1,5 +1,5 @@
 -- `input::ids_of_line` meets its contract. Assumes nothing.
-use Prim.Native.Nat.{ℕ, _+_, _≤_, _<_}
+use Prim.Native.Nat.{ℕ, _+_}
 use mathlib.Core.Path.{_≡_, sym}
 use mathlib.Core.Option.{some}
 use mathlib.Core.List.{List}

@@ -53,7 +53,7 @@ same-length : tie.Need-same-length Inv-loop μ-loop
 same-length c = lines-length (c .before .before .loop .inv)
 
 returns-2 : tie.Need-returns-2 Inv-loop μ-loop
-returns-2 c = line-too-many (c .before .before .loop .inv) (c .before .loop-test .taken) (c .if1 .taken)
+returns-2 c = let w = c .before .before in let f = w .loop .inv .few in line-too-many (w .loop .inv) (c .before .loop-test .taken) (omega arith)
 
 add-start : tie.Need-add-start Inv-loop μ-loop
 add-start c = let h = c .before .loop-test .taken in let g = c .before .before .before .before .before .before .before .before .before .before .before .good in omega arith

@@ -1,7 +1,6 @@
 -- `output::print_answer` meets its contract. Assumes nothing.
-use native.Mathlib.Omega.{arith}
 use borrow.Author.Needs.{needs}
-use Rattle.closer_input.proofs.Writing.{triples-fit, findings-fit, answer-whole, wrote-length}
+use Rattle.closer_input.proofs.Writing.{triples-fit, findings-fit, answer-whole}
 use Rattle.closer_input.proofs.output.print_answer.Statement.{statement}
 use Rattle.closer_input.proofs.output.print_answer.Tie as tie
 

@@ -1,5 +1,4 @@
 -- `output::print_name` meets its contract. Assumes nothing.
-use native.Mathlib.Omega.{arith}
 use borrow.Author.Needs.{needs}
 use Rattle.closer_input.proofs.Writing.{wrote-then, number-fits}
 use Rattle.closer_input.proofs.output.print_name.Statement.{statement}

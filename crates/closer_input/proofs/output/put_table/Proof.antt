@@ -1,7 +1,6 @@
 -- `output::put_table` meets its contract. Assumes nothing.
 use Prim.Native.Nat.{_-_}
 use native.Mathlib.Omega.{arith}
-use lib.ListN.{length}
 use borrow.Author.Needs.{needs}
 use Rattle.closer_input.proofs.Writing.{Tabled, tabled-start, tabled-length, tabled-row, tabled-fits, tabled-step, tabled-end}
 use Rattle.closer_input.proofs.output.put_table.Statement.{statement}
