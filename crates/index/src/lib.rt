@@ -21,6 +21,7 @@ pub use inner::lookup_valid;
 use inner::part;
 pub use inner::put_valid;
 use inner::refused;
+pub use run::put_run_terms;
 pub use valid::is_valid;
 pub use values::Counters;
 pub use values::Located;
