@@ -14,7 +14,7 @@ use Rattle.common.proofs.Lists.{in-nil, and→}
 use Rattle.index.specs.Terms.{Term, property-term, membership-term, member-term, run-terms}
 use Rattle.index.specs.Layout.{Dict, sum, size, layout, decode}
 use Rattle.index.specs.Dictionary.{same-term, place-from, place-of, id-of, kind-known, short, roomy, Put-answer, reckon-put, Brought, full, brought, if-zero, bring, valid}
-use Rattle.index.specs.Calls.{put-result, put-laid, put-gives, run-terms-result, run-terms-laid, run-terms-give}
+use Rattle.index.specs.Calls.{Put-result, put-result, put-laid, put-gives, run-terms-result, run-terms-laid, run-terms-give}
 use Rattle.index.specs.Entries.{id-below}
 use Rattle.index.specs.Running.{count-at, counted, Countable, is-brought}
 use Rattle.index.proofs.Choice.{if-no, is-true, is-false, decide-bool}
@@ -329,3 +329,7 @@ run-full d v e =
     go : (b : Brought) → false ≡ is-brought b → b ≡ full
     go full e = refl
     go (brought us) e = true-false (sym e)
+
+-- three answers as one
+pub run-results : {p q r p' q' r' : Put-result} → p ≡ p' → q ≡ q' → r ≡ r' → run-terms-result 0 (p .id) (q .id) (r .id) (r .contents) ≡ run-terms-result 0 (p' .id) (q' .id) (r' .id) (r' .contents)
+run-results e f g = λ i. run-terms-result 0 (e i .id) (f i .id) (g i .id) (g i .contents)

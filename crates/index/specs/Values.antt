@@ -5,6 +5,7 @@ use Prim.Native.Nat.{ℕ, _-_, _≤_}
 use lib.ListN.{length, take, drop}
 use Rattle.index.specs.declared.values.Counters.{Counters}
 use Rattle.index.specs.declared.values.Located.{Located}
+use Rattle.index.specs.declared.values.Put.{Put}
 use Rattle.index.specs.declared.values.PutNext.{PutNext}
 use Rattle.index.specs.declared.values.RunTerms.{RunTerms}
 use Rattle.index.specs.declared.values.Started.{Started}
@@ -23,6 +24,10 @@ start-left r t a = start-result (r .number) (contents t a (r .counters))
 -- the answer of a put, with the table and the arena as they are left
 abbrev pub put-left : PutNext → List ℕ → List ℕ → Put-result
 put-left r t a = put-result (r .number) (r .id .0) (contents t a (r .counters))
+
+-- the answer of a put with lent counters, with table, arena and counters as they are left
+abbrev pub put-lent : Put → List ℕ → List ℕ → Counters → Put-result
+put-lent r t a c = put-result (r .number) (r .id .0) (contents t a c)
 
 -- the answer of the put of a run's terms, with the table and the arena as they are left
 abbrev pub run-terms-left : RunTerms → List ℕ → List ℕ → Run-terms-result

@@ -21,6 +21,7 @@ pub use inner::lookup_valid;
 use inner::part;
 pub use inner::put_valid;
 use inner::refused;
+pub use run::put_run_terms;
 pub use valid::is_valid;
 pub use values::Counters;
 pub use values::Located;
@@ -32,7 +33,7 @@ ghost use mathlib.Core.Path.{_≡_};
 ghost use Rattle.index.specs.Terms.{term};
 ghost use Rattle.index.specs.Dictionary.{lookup-answer};
 ghost use Rattle.index.specs.Calls.{start-gives, put-gives, lookup-gives};
-ghost use Rattle.index.specs.Values.{contents, start-left, put-left, Locates};
+ghost use Rattle.index.specs.Values.{contents, start-left, put-left, put-lent, Locates};
 
 // Starts a dictionary in any table and arena that are well sized and large enough.
 pub fn start(table: &mut [u32], arena: &mut [u8]) -> Started
@@ -68,6 +69,24 @@ pub fn put_by_value(
         return put_valid(table, arena, counters, kind, bytes);
     }
     refused(1, counters)
+}
+
+// Put: the id of the term, which is added where it is not held. The counters are lent, and changed with the table and the arena.
+pub fn put(
+    table: &mut [u32],
+    arena: &mut [u8],
+    counters: &mut Counters,
+    kind: u32,
+    bytes: &[u8],
+) -> Put
+    ensures { λ r. ⌜ put-lent r (now (table .exit)) (now (arena .exit)) (now (counters .exit)) ≡ put-gives (contents (now (table .entry)) (now (arena .entry)) (now (counters .entry))) (term kind (now (bytes .entry))) ⌝ }
+{
+    let next = put_by_value(table, arena, *counters, kind, bytes);
+    *counters = next.counters;
+    Put {
+        number: next.number,
+        id: next.id,
+    }
 }
 
 // Where the term of an id lies, or a refusal.

@@ -16,6 +16,12 @@ ghost use Rattle.index.specs.Calls.{run-terms-give};
 ghost use Rattle.index.specs.Running.{counted, Countable, is-brought};
 ghost use Rattle.index.specs.Values.{contents, run-terms-left};
 
+const PROPERTY: [u8; 51] = *b"http://www.w3.org/1999/02/22-rdf-syntax-ns#Property";
+
+const MEMBERSHIP: [u8; 64] = *b"http://www.w3.org/2000/01/rdf-schema#ContainerMembershipProperty";
+
+const MEMBER: [u8; 43] = *b"http://www.w3.org/2000/01/rdf-schema#member";
+
 // The counters with one term more, where the named node is not held.
 fn count_new(table: &[u32], arena: &[u8], counters: Counters, iri: &[u8], sum: Counters) -> Counters
     requires { ⌜ Countable (contents (now table) (now arena) counters) (now iri) sum ⌝ }
@@ -36,14 +42,43 @@ fn run_terms_fit(table: &[u32], arena: &[u8], counters: Counters) -> bool
     requires { ⌜ T (valid (contents (now table) (now arena) counters)) ⌝ }
     ensures { λ r. ⌜ r ≡ is-brought (bring (length (now (table .entry))) (length (now (arena .entry))) (decode (contents (now (table .entry)) (now (arena .entry)) counters)) run-terms) ⌝ }
 {
-    let property = b"http://www.w3.org/1999/02/22-rdf-syntax-ns#Property";
-    let membership = b"http://www.w3.org/2000/01/rdf-schema#ContainerMembershipProperty";
-    let member = b"http://www.w3.org/2000/01/rdf-schema#member";
-    let c = count_new(table, arena, counters, property, counters);
-    let c = count_new(table, arena, counters, membership, c);
-    let c = count_new(table, arena, counters, member, c);
+    let c = count_new(table, arena, counters, &PROPERTY, counters);
+    let c = count_new(table, arena, counters, &MEMBERSHIP, c);
+    let c = count_new(table, arena, counters, &MEMBER, c);
     if table.len() < 64 + 4 * (c.terms as usize) {
         return false;
     }
     c.used as usize <= arena.len()
+}
+
+// Puts rdf Property, rdfs ContainerMembershipProperty and rdfs member in a dictionary that is not broken, and leaves it so.
+pub fn put_run_terms(table: &mut [u32], arena: &mut [u8], counters: Counters) -> RunTerms
+    requires { ⌜ T (valid (contents (now table) (now arena) counters)) ⌝ }
+    ensures { λ r. ⌜ run-terms-left r (now (table .exit)) (now (arena .exit)) ≡ run-terms-give (contents (now (table .entry)) (now (arena .entry)) counters) ⌝ }
+{
+    if run_terms_fit(table, arena, counters) {
+        let p = put_valid(table, arena, counters, 1, &PROPERTY);
+        let property = p.id;
+        let c = p.counters;
+        let q = put_valid(table, arena, c, 1, &MEMBERSHIP);
+        let membership = q.id;
+        let c = q.counters;
+        let r = put_valid(table, arena, c, 1, &MEMBER);
+        let member = r.id;
+        let c = r.counters;
+        return RunTerms {
+            number: 0,
+            property,
+            membership,
+            member,
+            counters: c,
+        };
+    }
+    RunTerms {
+        number: 7,
+        property: Id(0),
+        membership: Id(0),
+        member: Id(0),
+        counters,
+    }
 }
