@@ -11,6 +11,7 @@ use Rattle.index.specs.Dictionary.{reckon-put, Brought, full, brought, if-zero,
 use Rattle.index.specs.Calls.{start-gives, Put-result, put-result, put-laid, put-gives, lookup-gives}
 use Rattle.index.proofs.Holding.{Holds, holds-put}
 use Rattle.index.proofs.Reachable.{on-layout, start-holds, start-leaves}
+use Rattle.reasoner.proofs.Bringing.{bring-holds}
 use Rattle.calls.specs.Calls.{Call, put, lookup, run-on, put-gave, lookup-gave, run-gave, Left, call-gives, Reckoned, reckon, event, List-left, calls-give, events-of, terms-after}
 use Rattle.calls.specs.Demand3.{answer, reckoned}
 
@@ -25,15 +26,6 @@ call-reckoned tl al ts (lookup i) h = ap (λ (a : Lookup-answer). record { out =
 call-reckoned tl al ts (run-on b) h = ap (λ (a : Run-result). record { out = run-gave (a .answer); contents = a .contents }) (on-layout tl al ts (run-laid b) (λ _. record { answer = unchanged 1 b; contents = layout tl al ts }) h)
 
 -- the terms held after a call can be held
-pub bring-holds : (tl al : ℕ) (ts r us : List Term) → Holds tl al ts → bring tl al ts r ≡ brought us → Holds tl al us
-unfolding bring
-bring-holds tl al ts [] us h e = subst (Holds tl al) (cc) h
-bring-holds tl al ts (t ∷ r) us h e = go (reckon-put tl al ts t .number) e (bring-holds tl al (reckon-put tl al ts t .held) r us (holds-put tl al ts t h))
-  where
-    go : (n : ℕ) → if-zero n (λ _. bring tl al (reckon-put tl al ts t .held) r) (λ _. full) ≡ brought us → (bring tl al (reckon-put tl al ts t .held) r ≡ brought us → Holds tl al us) → Holds tl al us
-    go zero e k = k e
-    go (suc n) e k = let z : _≡_ {A = ℕ} 0 1 = cc in absurd (omega arith)
-
 run-holds : (tl al : ℕ) (ts : List Term) (b : Lent) → Holds tl al ts → Holds tl al (reckon-run tl al ts b .held)
 unfolding reckon-run
 run-holds tl al ts b h = go (first-met (run-stops (length ts) b))

@@ -1,3 +1,7 @@
 pub mod Outcome
-pub mod Closing
 pub mod Refusing
+pub mod Bringing
+pub mod Loading
+pub mod Answering
+pub mod Terming
+pub mod Running

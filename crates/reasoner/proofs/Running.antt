@@ -1,0 +1,200 @@
+-- From the steps of a run to what its definition gives. Assumes nothing.
+use mathlib.Core.Path.{_≡_, refl, sym, ap, subst, _∙_}
+use mathlib.Core.Logic.{_≢_, ⊎-elim}
+use mathlib.Core.Bool.{Bool, true, false, not}
+use mathlib.Core.Option.{Option, some}
+use mathlib.Core.List.{List, [], _∷_}
+use Prim.Native.Nat.{ℕ, zero, suc, _+_, _*_, _%_, _≤_, _<_}
+use native.Mathlib.Omega.{arith}
+use lib.Dec.{T, ltb, eqb, eqb→eq, ltb→lt, lt→ltb}
+use lib.ListN.{length}
+use Rattle.common.specs.Triples.{Triple, In, here, there}
+use Rattle.common.specs.Table.{all}
+use Rattle.common.specs.Rows.{triples}
+use Rattle.rows.proofs.Cases.{le-or, true-false}
+use Rattle.checks.specs.Findings.{Buffer}
+use Rattle.index.specs.Terms.{Term, property-term, membership-term, member-term, run-terms}
+use Rattle.index.specs.Layout.{Dict, layout, decode}
+use Rattle.index.specs.Dictionary.{place-of, id-of, Brought, full, brought, bring, valid}
+use Rattle.index.specs.Calls.{Run-terms-result, run-terms-result, run-terms-laid, run-terms-give}
+use Rattle.index.specs.Values.{contents, run-terms-left}
+use Rattle.index.specs.declared.values.Counters.{Counters}
+use Rattle.index.specs.declared.values.RunTerms.{RunTerms}
+use Rattle.index.proofs.Choice.{if-yes, if-no}
+use Rattle.index.proofs.Decoding.{decode-layout}
+use Rattle.index.proofs.Holding.{Holds, valid→, valid-layout}
+use Rattle.index.proofs.Reading.{held, count}
+use Rattle.reasoner.specs.declared.values.RunAnswer.{RunAnswer}
+use Rattle.reasoner.specs.Run.{Lent, Run-answer, unchanged, shown, first-met, run-stops, closed, Run-reckoned, run-brought, run-passed, reckon-run, Run-result, run-laid, run-gives}
+use Rattle.reasoner.specs.Loads.{Termed, Loaded}
+use Rattle.reasoner.proofs.Refusing.{Unmet, unmet-all, not-not, all-in}
+use Rattle.reasoner.proofs.Bringing.{grown-length, bring-grows, bring-holds, bring-few, bring-has, place-below}
+
+not-above : (a b : ℕ) → T (not (ltb a b)) → b ≤ a
+not-above a b h = ⊎-elim (λ p. p) (λ p. absurd (go (ltb a b) (lt→ltb a b p) h)) (le-or b a)
+  where
+    go : (c : Bool) → T c → T (not c) → ⊥
+    go true p q = absurd q
+    go false p q = absurd p
+
+abbrev result : Run-answer → Dict → Run-result
+result a d = record { answer = a; contents = d }
+
+-- refusal 1
+pub run-broken : (d : Dict) (b : Lent) → (T (valid d) → ⊥) → result (unchanged 1 b) d ≡ run-gives d b
+unfolding run-gives
+run-broken d b f = sym (if-no (valid d) (λ _. run-laid b (length (d .table)) (length (d .arena)) (decode d)) (λ _. result (unchanged 1 b) d) f)
+
+module _ (d : Dict) (b : Lent) (v : T (valid d)) where
+  abbrev tl : ℕ
+  tl = length (d .table)
+
+  abbrev al : ℕ
+  al = length (d .arena)
+
+  abbrev ts : List Term
+  ts = decode d
+
+  laid : layout tl al ts ≡ d
+  laid = valid→ d v .1
+
+  abbrev laid-out : Run-reckoned → Run-result
+  laid-out r = result (r .answer) (layout tl al (r .held))
+
+  -- what the terms held say
+  gives : {n : ℕ} → n ≡ first-met (run-stops (d .terms) b) → run-gives d b ≡ laid-out (run-passed n tl al ts b)
+  unfolding run-gives reckon-run
+  gives {n} e =
+      if-yes (valid d) (λ _. run-laid b tl al ts) (λ _. result (unchanged 1 b) d) v
+      ∙ ap (λ (m : ℕ). laid-out (run-passed (first-met (run-stops m b)) tl al ts b)) (sym (count d v))
+      ∙ ap (λ (m : ℕ). laid-out (run-passed m tl al ts b)) (sym e)
+
+  -- refusals 2 to 6
+  pub run-refused : {n : ℕ} → n ≡ first-met (run-stops (d .terms) b) → n ≢ 0 → result (unchanged n b) d ≡ run-gives d b
+  run-refused {n} e z = go n z ∙ sym (gives e)
+    where
+      go : (n : ℕ) → n ≢ 0 → result (unchanged n b) d ≡ laid-out (run-passed n tl al ts b)
+      go zero z = absurd (z refl)
+      go (suc n) z = ap (result (unchanged (suc n) b)) (sym laid)
+
+  module _ (e : 0 ≡ first-met (run-stops (d .terms) b)) (x : Run-terms-result) (g : x ≡ run-terms-give d) where
+    terms-laid : x ≡ run-terms-laid tl al ts (bring tl al ts run-terms)
+    unfolding run-terms-give
+    terms-laid = g
+
+    -- refusal 7
+    pub run-refused-7 : x .number ≢ 0 → (x .contents ≡ d) × (result (unchanged (x .number) b) d ≡ run-gives d b)
+    run-refused-7 z = let (p, q) = go (bring tl al ts run-terms) terms-laid in (p, q ∙ sym (gives e))
+      where
+        go : (w : Brought) → x ≡ run-terms-laid tl al ts w → (x .contents ≡ d) × (result (unchanged (x .number) b) d ≡ laid-out (run-brought b ts w))
+        go full h = (ap (λ (r : Run-terms-result). r .contents) h ∙ laid, ap (λ (r : Run-terms-result). result (unchanged (r .number) b) d) h ∙ ap (result (unchanged 7 b)) (sym laid))
+        go (brought us) h = absurd (z (ap (λ (r : Run-terms-result). r .number) h))
+
+    -- the terms that the dictionary holds then
+    pub record Held : Type 0 where
+      pub terms : List Term
+      pub brings : bring tl al ts run-terms ≡ brought terms
+      pub left : x ≡ run-terms-result 0 (id-of (place-of property-term terms)) (id-of (place-of membership-term terms)) (id-of (place-of member-term terms)) (layout tl al terms)
+
+    pub held-then : x .number ≡ 0 → Held
+    held-then z = go (bring tl al ts run-terms) refl terms-laid
+      where
+        go : (w : Brought) → bring tl al ts run-terms ≡ w → x ≡ run-terms-laid tl al ts w → Held
+        go full q h = absurd (omega (arith, z, ap (λ (r : Run-terms-result). r .number) h))
+        go (brought us) q h = record { terms = us; brings = q; left = h }
+
+    module _ (H : Held) where
+      us-hold : Holds tl al (H .terms)
+      us-hold = bring-holds tl al ts run-terms (H .terms) (held d v) (H .brings)
+
+      left : x .contents ≡ layout tl al (H .terms)
+      left = ap (λ (r : Run-terms-result). r .contents) (H .left)
+
+      decoded : decode (x .contents) ≡ H .terms
+      decoded = ap decode left ∙ decode-layout tl al (H .terms)
+
+      -- an accepted run, or refusal 8 or 9
+      pub run-done : result (shown b (closed b (decode (x .contents)))) (x .contents) ≡ run-gives d b
+      run-done =
+          ap (λ (us : List Term). result (shown b (closed b us)) (x .contents)) decoded
+          ∙ ap (result (shown b (closed b (H .terms)))) left
+          ∙ ap (λ (w : Brought). laid-out (run-brought b ts w)) (sym (H .brings))
+          ∙ sym (gives e)
+
+      still-valid : T (valid (x .contents))
+      still-valid = subst (λ (c : Dict). T (valid c)) (sym left) (valid-layout tl al (H .terms) us-hold)
+
+      counted : x .contents .terms ≡ length (H .terms)
+      counted = count (x .contents) still-valid ∙ ap (λ (us : List Term). length us) decoded
+
+      id-below : (t : Term) → In t run-terms → id-of (place-of t (H .terms)) < x .contents .terms
+      id-below t i =
+          let (j, p) = bring-has tl al ts run-terms (H .terms) (H .brings) t i in
+          subst (λ (o : Option ℕ). id-of o < x .contents .terms) (sym p) (omega (arith, counted, place-below 0 t (H .terms) j p))
+
+      abbrev Id-is : Term → ℕ → Type 0
+      Id-is t i = (i ≡ id-of (place-of t (decode (x .contents)))) × (i < x .contents .terms)
+
+      id-is : (t : Term) → In t run-terms → {i : ℕ} → i ≡ id-of (place-of t (H .terms)) → Id-is t i
+      id-is t m q = (q ∙ ap (λ (us : List Term). id-of (place-of t us)) (sym decoded), omega (arith, id-below t m))
+
+      -- WHAT THE CLOSING IS TOLD of the dictionary
+      pub termed : (r : RunTerms) {table arena : List ℕ} → run-terms-left r table arena ≡ x → Termed table arena r
+      unfolding run-terms
+      termed r {table} {arena} q =
+          let f = q ∙ H .left in
+          let p₁ = id-is property-term (here refl) (ap (λ (y : Run-terms-result). y .property) f) in
+          let p₂ = id-is membership-term (there (here refl)) (ap (λ (y : Run-terms-result). y .membership) f) in
+          let p₃ = id-is member-term (there (there (here refl))) (ap (λ (y : Run-terms-result). y .member) f) in
+          let c : x .contents ≡ contents table arena (r .counters) = sym (ap (λ (y : Run-terms-result). y .contents) q) in
+          record {
+            sound = subst (λ (k : Dict). T (valid k)) c still-valid;
+            property = subst (λ (k : Dict). r .property .0 ≡ id-of (place-of property-term (decode k))) c (p₁ .0);
+            membership = subst (λ (k : Dict). r .membership .0 ≡ id-of (place-of membership-term (decode k))) c (p₂ .0);
+            member = subst (λ (k : Dict). r .member .0 ≡ id-of (place-of member-term (decode k))) c (p₃ .0);
+            below = subst (λ (k : Dict). (r .property .0 < k .terms) × (r .membership .0 < k .terms) × (r .member .0 < k .terms)) c (p₁ .1, p₂ .1, p₃ .1);
+          }
+
+      -- and of load and buffers
+      few-more : x .contents .terms ≤ d .terms + 3
+      unfolding run-terms
+      few-more = omega (arith, counted, count d v, bring-few tl al ts run-terms (H .terms) (H .brings))
+
+      more : d .terms ≤ x .contents .terms
+      more = omega (arith, counted, count d v, grown-length ts (H .terms) (bring-grows tl al ts run-terms (H .terms) (H .brings)))
+
+      abbrev passed : Unmet (run-stops (d .terms) b)
+      passed = unmet-all (run-stops (d .terms) b) tt (sym e)
+
+      pub loaded : Loaded (b .load) (b .store) (b .work) (x .contents .terms)
+      loaded = record {
+        whole = eqb→eq (length (b .load) % 3) 0 (not-not (eqb (length (b .load) % 3) 0) (passed .0));
+        few = not-above (3 * 65535) (length (b .store)) (passed .1 .1 .1 .0);
+        room = omega (arith, few-more, not-above (length (b .work)) (2 * (d .terms + 3)) (passed .1 .1 .1 .1 .1 .1 .0));
+        known = λ t i. known t (all-in (λ j. ltb j (d .terms)) (b .load) (not-not (all (λ j. ltb j (d .terms)) (b .load)) (passed .1 .1 .1 .1 .1 .1 .1 .1 .0)) t i);
+      }
+        where
+          known : (t : Triple) → T (ltb (t .s) (d .terms)) × T (ltb (t .p) (d .terms)) × T (ltb (t .o) (d .terms)) → (t .s < x .contents .terms) × (t .p < x .contents .terms) × (t .o < x .contents .terms)
+          known t k = (omega (arith, more, ltb→lt (t .s) (d .terms) (k .0)), omega (arith, more, ltb→lt (t .p) (d .terms) (k .1)), omega (arith, more, ltb→lt (t .o) (d .terms) (k .2)))
+
+      pub buffer : Buffer (b .findings)
+      buffer = record {
+        whole = eqb→eq (length (b .findings) % 5) 0 (not-not (eqb (length (b .findings) % 5) 0) (passed .1 .1 .1 .1 .0));
+        few = not-above (5 * 65535) (length (b .findings)) (passed .1 .1 .1 .1 .1 .0);
+      }
+
+-- the same table and arena, with the counters as they were
+pub same-contents : {t t' a a' : List ℕ} {c c' : Counters} → contents t' a' c' ≡ contents t a c → contents t' a' c ≡ contents t a c
+same-contents {c = c} e = let f = ap (λ (d : Dict). d .table) e in let g = ap (λ (d : Dict). d .arena) e in λ i. contents (f i) (g i) c
+
+-- what the code was told, in the definitions' terms
+pub told : {A : Type 0} (r v b : A) → r ≡ v → r ≡ b → v ≡ b
+told r v b e f = sym e ∙ f
+
+pub told-no : (r b : Bool) → not r ≡ true → r ≡ b → false ≡ b
+told-no true b e f = true-false (sym e)
+told-no false b e f = f
+
+pub told-yes : (r b : Bool) → not r ≡ false → r ≡ b → true ≡ b
+told-yes true b e f = f
+told-yes false b e f = true-false e
