@@ -2,7 +2,7 @@
 use mathlib.Core.Path.{_≡_, refl, sym, ap, _∙_}
 use mathlib.Core.List.{List, [], _∷_, _++_, append-assoc, append-nil}
 use Prim.Native.Nat.{ℕ, zero, suc, _+_, _-_, _*_, _/_, _%_, _^_, _≤_, _<_}
-use native.Mathlib.Nat.{add-suc, add-zero, zero-add, mul-zero, mul-suc, mul-le-mul-left}
+use native.Mathlib.Nat.{add-suc, add-zero, zero-add, mul-zero, mul-suc, mul-le-mul-left, mul-le-mul-right}
 use native.Mathlib.Numerals.{add-one}
 use native.Mathlib.Omega.{arith}
 use lib.ListN.{replicate, length, getD, take, drop, set, length-append, length-set, length-take, length-drop, drop-of-length-le}
@@ -315,20 +315,22 @@ module _ {store : List ℕ} {triples : ℕ} {findings : List ℕ} {records : ℕ
         omega arith;
   }
 
-  -- for the findings after them,
-  pub findings-fit : {d : List ℕ} {n : ℕ} → Words store → Wrote b m (table 3 triples store) d n → TableFits findings 5 records d n
-  findings-fit q v = record {
-    held = f .found;
-    room =
-        let s = line-short (0 ∷ triples ∷ records ∷ []) (head-words triples records h i) in
-        let t = table-short 3 triples store q in
-        let e = w .end in
-        let g = v .end in
-        let k = wrote-length w in
-        let l = wrote-length v in
-        let r = f .room in
-        omega arith;
-  }
+  -- for the findings after them, five numbers a line or fewer,
+  pub findings-fit : {d : List ℕ} {n width : ℕ} → width ≤ 5 → Words store → Wrote b m (table 3 triples store) d n → TableFits findings width records d n
+  findings-fit u q v =
+      let a = mul-le-mul-right records u in
+      record {
+        held = let o = f .found in omega arith;
+        room =
+            let s = line-short (0 ∷ triples ∷ records ∷ []) (head-words triples records h i) in
+            let t = table-short 3 triples store q in
+            let e = w .end in
+            let g = v .end in
+            let k = wrote-length w in
+            let l = wrote-length v in
+            let r = f .room in
+            omega arith;
+      }
 
   -- and the three pieces are the answer
   pub answer-whole : {d : List ℕ} {n : ℕ} {c : List ℕ} {last : ℕ} → Wrote b m (table 3 triples store) d n → Wrote d n (table 5 records findings) c last → Wrote old 0 (answer store triples findings records) c last

@@ -1,4 +1,5 @@
 -- `output::print_answer` meets its contract. Assumes nothing.
+use native.Mathlib.Omega.{arith}
 use borrow.Author.Needs.{needs}
 use Rattle.closer_input.proofs.Writing.{triples-fit, findings-fit, answer-whole}
 use Rattle.closer_input.proofs.output.print_answer.Statement.{statement}
@@ -16,7 +17,7 @@ put-table-requires c κs = let z = c .before .before .before .before .before .be
 put-table-requires-2 : tie.Need-put-table-requires-2
 put-table-requires-2 c κs =
     let z = c .before .before .before .before .before .before .before .before .before .before .before .before .before in
-    findings-fit (z .pre) (z .fits .triples .fits) (z .fits .records .fits) (c .before .before .before .before .before .before .before .put-line .ensures) (λ k. c .before .before .before .before .before .before .before .before .before .before .before .before .shared-slice-known .given k .fits) (c .before .before .before .put-table .ensures)
+    findings-fit (z .pre) (z .fits .triples .fits) (z .fits .records .fits) (c .before .before .before .before .before .before .before .put-line .ensures) (omega arith) (λ k. c .before .before .before .before .before .before .before .before .before .before .before .before .shared-slice-known .given k .fits) (c .before .before .before .put-table .ensures)
 
 same-length : tie.Need-same-length
 same-length c = search needs
