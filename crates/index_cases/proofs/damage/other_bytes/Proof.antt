@@ -1,0 +1,96 @@
+-- `index_cases::damage::other_bytes` meets its contract. Assumes nothing.
+use mathlib.Core.Path.{_∙_}
+use borrow.Author.Needs.{needs}
+use Rattle.index_cases.proofs.damage.other_bytes.Statement.{statement}
+use Rattle.index_cases.proofs.damage.other_bytes.Tie as tie
+
+four-requires : tie.Need-four-requires
+four-requires c κs = search needs
+
+write-requires : tie.Need-write-requires
+write-requires c κs = search needs
+
+write-requires-2 : tie.Need-write-requires-2
+write-requires-2 c κs = search needs
+
+slice-aggregate-broken : tie.Need-slice-aggregate-broken
+slice-aggregate-broken c = search needs
+
+broken-requires : tie.Need-broken-requires
+broken-requires c κs = search needs
+
+slice-aggregate-put-kept : tie.Need-slice-aggregate-put-kept
+slice-aggregate-put-kept c = search needs
+
+slice-aggregate-put-kept-2 : tie.Need-slice-aggregate-put-kept-2
+slice-aggregate-put-kept-2 c = search needs
+
+put-kept-requires : tie.Need-put-kept-requires
+put-kept-requires c κs = search needs
+
+write-requires-3 : tie.Need-write-requires-3
+write-requires-3 c κs = search needs
+
+write-requires-4 : tie.Need-write-requires-4
+write-requires-4 c κs = search needs
+
+slice-aggregate-whole : tie.Need-slice-aggregate-whole
+slice-aggregate-whole c = search needs
+
+whole-requires : tie.Need-whole-requires
+whole-requires c κs = search needs
+
+slice-aggregate-look : tie.Need-slice-aggregate-look
+slice-aggregate-look c = search needs
+
+slice-aggregate-look-2 : tie.Need-slice-aggregate-look-2
+slice-aggregate-look-2 c = search needs
+
+look-requires : tie.Need-look-requires
+look-requires c κs = search needs
+
+slice-aggregate-put-kept-3 : tie.Need-slice-aggregate-put-kept-3
+slice-aggregate-put-kept-3 c = search needs
+
+slice-aggregate-put-kept-4 : tie.Need-slice-aggregate-put-kept-4
+slice-aggregate-put-kept-4 c = search needs
+
+put-kept-requires-2 : tie.Need-put-kept-requires-2
+put-kept-requires-2 c κs = search needs
+
+same-length : tie.Need-same-length
+same-length c =
+    c .before .before .before .before .put-kept2 .kept .1 .0 ∙ (c .before .before .before .before .before .before .before .before .before .before .before .before .before .before .before .before .before .before .before .before .before .before .before .before .before .before .before .before .before .before .put-kept .kept .1 .0 ∙ c .before .before .before .before .before .before .before .before .before .before .before .before .before .before .before .before .before .before .before .before .before .before .before .before .before .before .before .before .before .before .before .before .before .before .before .before .before .before .before .before .before .before .before .before .before .before .before .before .before .before .before .four .kept .0)
+
+same-length-2 : tie.Need-same-length-2
+same-length-2 c =
+    c .before .before .before .before .put-kept2 .kept .1 .1 .0 ∙ (c .before .before .before .before .before .before .before .before .before .before .before .before .before .before .before .before .before .before .before .before .write4 .kept .0 ∙ (c .before .before .before .before .before .before .before .before .before .before .before .before .before .before .before .before .before .before .before .before .before .before .before .before .write3 .kept .0 ∙ (c .before .before .before .before .before .before .before .before .before .before .before .before .before .before .before .before .before .before .before .before .before .before .before .before .before .before .before .before .before .before .put-kept .kept .1 .1 .0 ∙ (c .before .before .before .before .before .before .before .before .before .before .before .before .before .before .before .before .before .before .before .before .before .before .before .before .before .before .before .before .before .before .before .before .before .before .before .before .before .before .before .before .before .write2 .kept .0 ∙ (c .before .before .before .before .before .before .before .before .before .before .before .before .before .before .before .before .before .before .before .before .before .before .before .before .before .before .before .before .before .before .before .before .before .before .before .before .before .before .before .before .before .before .before .before .before .write .kept .0 ∙ c .before .before .before .before .before .before .before .before .before .before .before .before .before .before .before .before .before .before .before .before .before .before .before .before .before .before .before .before .before .before .before .before .before .before .before .before .before .before .before .before .before .before .before .before .before .before .before .before .before .before .before .four .kept .1 .0)))))
+
+returns : tie.Need-returns
+returns c = search needs
+
+pub other-bytes-spec : {M : Type 1} → statement M
+other-bytes-spec =
+    tie.close
+    (tie.spec
+    four-requires
+    write-requires
+    write-requires-2
+    slice-aggregate-broken
+    broken-requires
+    slice-aggregate-put-kept
+    slice-aggregate-put-kept-2
+    put-kept-requires
+    write-requires-3
+    write-requires-4
+    slice-aggregate-whole
+    whole-requires
+    slice-aggregate-look
+    slice-aggregate-look-2
+    look-requires
+    slice-aggregate-put-kept-3
+    slice-aggregate-put-kept-4
+    put-kept-requires-2
+    same-length
+    same-length-2
+    returns)
