@@ -1,0 +1,86 @@
+-- The numbers that a call is handed for a buffer of bytes. Assumes nothing.
+use mathlib.Core.Path.{_≡_, refl, sym, ap, subst, _∙_}
+use mathlib.Core.Logic.{_⊎_, inl, inr, ⊎-elim}
+use mathlib.Core.Bool.{Bool, true, false}
+use mathlib.Core.List.{List, [], _∷_}
+use Prim.Native.Nat.{ℕ, suc, _+_, _*_, _/_, _%_, _≤_, _<_}
+use native.Mathlib.Omega.{arith}
+use lib.Dec.{T, eqb, leb}
+use lib.ListN.{length, take, replicate, length-replicate}
+use lib.Seq.{length-take-le}
+use borrow.Author.Tests.{eq-eqb, ne-eqb, eqb-true, eqb-false, leb-true, leb-false}
+use Rattle.common.specs.Triples.{if}
+use Rattle.entry.specs.Bytes.{numbers-of, read-buffer, handed}
+use Rattle.reasoner.specs.Run.{Lent}
+use Rattle.entry.specs.Calls.{Handed-on, Enough}
+use Rattle.entry.proofs.Coding.{handed-ragged, handed-all, handed-more}
+
+pub length-numbers : (b : List ℕ) → length (numbers-of b) ≡ length b / 4
+unfolding numbers-of
+length-numbers [] = omega arith
+length-numbers (a ∷ []) = omega arith
+length-numbers (a ∷ b ∷ []) = omega arith
+length-numbers (a ∷ b ∷ c ∷ []) = omega arith
+length-numbers (a ∷ b ∷ c ∷ d ∷ l) = omega (arith, length-numbers l)
+
+-- the numbers of a buffer, by its length
+module _ (b : List ℕ) where
+  pub read-whole : length b % 4 ≡ 0 → read-buffer b ≡ numbers-of b
+  unfolding read-buffer
+  read-whole h = simp (eq-eqb (length b % 4) 0 h)
+
+  pub read-ragged : (length b % 4 ≡ 0 → ⊥) → length (read-buffer b) ≡ 1
+  unfolding read-buffer
+  read-ragged h = simp (ne-eqb (length b % 4) 0 h)
+
+-- n numbers for the buffer b: all of them, or one for a buffer whose length is no multiple of 4, or `more` for one that has over `most`
+pub data Handed (most more : ℕ) (b : List ℕ) (n : ℕ) : Type 0 where
+  whole : length b ≡ 4 * n → n ≤ most → n ≡ length (read-buffer b) → read-buffer b ≡ numbers-of b → Handed most more b n
+  ragged : n ≡ 1 → length (read-buffer b) ≡ 1 → Handed most more b n
+  long : n ≡ more → length b % 4 ≡ 0 → length (read-buffer b) ≡ length b / 4 → most < length b / 4 → Handed most more b n
+
+pub by-length : (most more : ℕ) (b : List ℕ) (n : ℕ) → n ≡ handed most more (length b) → Handed most more b n
+by-length most more b n e = go (eqb (length b % 4) 0) (leb (length b / 4) most) refl refl
+  where
+    all : length b % 4 ≡ 0 → length (read-buffer b) ≡ length b / 4
+    all h = ap (λ (l : List ℕ). length l) (read-whole b h) ∙ length-numbers b
+
+    go : (p q : Bool) → eqb (length b % 4) 0 ≡ p → leb (length b / 4) most ≡ q → Handed most more b n
+    go true true i j =
+        let h = eqb-true (length b % 4) 0 i in
+        let k = leb-true (length b / 4) most j in
+        whole (omega (arith, handed-all most more (length b) h k)) (omega (arith, handed-all most more (length b) h k)) (omega (arith, all h, handed-all most more (length b) h k)) (read-whole b h)
+    go true false i j =
+        let h = eqb-true (length b % 4) 0 i in
+        let k = leb-false (length b / 4) most j in
+        long (e ∙ sym (handed-more most more (length b) h k)) h (all h) k
+    go false q i j =
+        let h = eqb-false (length b % 4) 0 i in
+        ragged (e ∙ sym (handed-ragged most more (length b) h)) (read-ragged b h)
+
+-- numbers that suffice for the longest buffer have as many in front
+module _ (most more : ℕ) (b l : List ℕ) (room : most ≤ length l) (one : 1 ≤ length l) (rest : more ≤ length l) {n : ℕ} (e : n ≡ handed most more (length b)) where
+  pub prefix-fits : n ≤ length l
+  prefix-fits = go (by-length most more b n e)
+    where
+      go : Handed most more b n → n ≤ length l
+      go (whole p u q r) = omega arith
+      go (ragged p q) = omega arith
+      go (long p q r s) = omega arith
+
+  pub prefix-count : n ≡ length (take n l)
+  prefix-count = sym (length-take-le n l prefix-fits)
+
+  pub prefix-handed : length (take n l) ≡ handed most more (length b)
+  prefix-handed = sym prefix-count ∙ e
+
+-- numbers that are read keep their lengths
+pub handed-read : {t l t' l' s f w table : List ℕ} {b : Lent} → Handed-on t l s f w table b → length t' ≡ length t → length l' ≡ length l → Handed-on t' l' s f w table b
+handed-read h p q = record { table-numbers = p ∙ h .table-numbers; load-numbers = q ∙ h .load-numbers; store-numbers = h .store-numbers; findings-numbers = h .findings-numbers; work-numbers = h .work-numbers }
+
+-- local arrays suffice
+pub enough : (t l s f w : ℕ) → 262204 ≤ t → 49157 ≤ l → 196605 ≤ s → 327675 ≤ f → 131076 ≤ w → Enough (replicate t 0) (replicate l 0) (replicate s 0) (replicate f 0) (replicate w 0)
+enough t l s f w p q x y z = record { table-room = long-enough t p; load-room = long-enough l q; store-room = long-enough s x; findings-room = long-enough f y; work-room = long-enough w z }
+  where
+    long-enough : {m : ℕ} (n : ℕ) → m ≤ n → m ≤ length (replicate {A = ℕ} n 0)
+    long-enough {m} n h = subst (λ (k : ℕ). m ≤ k) (sym (length-replicate {A = ℕ} n 0)) h

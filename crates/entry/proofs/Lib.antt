@@ -1,0 +1,6 @@
+pub mod Coding
+pub mod Handing
+pub mod Tables
+pub mod Refusals
+pub mod Runs
+pub mod Places

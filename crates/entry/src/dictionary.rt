@@ -1,0 +1,178 @@
+// Start, put and lookup, with numbers lent for the table.
+use crate::numbers::how_many;
+use crate::numbers::read_numbers;
+use crate::numbers::write_back;
+use index::Counters;
+use index::is_valid;
+use index::put_by_value;
+use index::start;
+ghost use mathlib.Core.Path.{_≡_};
+ghost use Prim.Native.Nat.{_≤_};
+ghost use lib.Dec.{T};
+ghost use lib.ListN.{length};
+ghost use Rattle.index.specs.Terms.{term};
+ghost use Rattle.index.specs.Layout.{dict};
+ghost use Rattle.index.specs.Dictionary.{valid};
+ghost use Rattle.index.specs.Calls.{start-result, put-result};
+ghost use Rattle.index.specs.Values.{contents};
+ghost use Rattle.entry.specs.Bytes.{handed};
+ghost use Rattle.entry.specs.Calls.{read-dict, start-bytes-give, put-bytes-give, place-answer, Places};
+ghost use Rattle.entry.specs.Values.{placed};
+
+// Start, with as many numbers as it is handed. What stood in the table is not read.
+fn start_on(
+    numbers: &mut [u32],
+    table: &mut [u8],
+    arena: &mut [u8],
+    terms: &mut u32,
+    used: &mut u32,
+) -> u32
+    requires { ⌜ length (now numbers) ≡ handed 262204 1 (length (now table)) ⌝ }
+    ensures { λ r. ⌜ start-result r (dict (now (table .exit)) (now (arena .exit)) (now (terms .exit)) (now (used .exit))) ≡ start-bytes-give (now (table .entry)) (now (arena .entry)) ⌝ }
+{
+    let started = start(&mut *numbers, &mut *arena);
+    write_back(started.number, &*numbers, &mut *table);
+    *terms = started.counters.terms;
+    *used = started.counters.used;
+    started.number
+}
+
+// Start, with numbers that suffice for every table.
+pub fn start_in(
+    numbers: &mut [u32],
+    table: &mut [u8],
+    arena: &mut [u8],
+    terms: &mut u32,
+    used: &mut u32,
+) -> u32
+    requires { ⌜ 262204 ≤ length (now numbers) ⌝ }
+    ensures { λ r. ⌜ start-result r (dict (now (table .exit)) (now (arena .exit)) (now (terms .exit)) (now (used .exit))) ≡ start-bytes-give (now (table .entry)) (now (arena .entry)) ⌝ }
+{
+    let n = how_many(table.len(), 262204, 1);
+    start_on(&mut numbers[..n], table, arena, terms, used)
+}
+
+// Put, with as many numbers as it is handed.
+fn put_on(
+    numbers: &mut [u32],
+    table: &mut [u8],
+    arena: &mut [u8],
+    terms: &mut u32,
+    used: &mut u32,
+    kind: u32,
+    bytes: &[u8],
+    id: &mut u32,
+) -> u32
+    requires { ⌜ length (now numbers) ≡ handed 262204 1 (length (now table)) ⌝ }
+    ensures { λ r. ⌜ put-result r (now (id .exit)) (dict (now (table .exit)) (now (arena .exit)) (now (terms .exit)) (now (used .exit))) ≡ put-bytes-give (dict (now (table .entry)) (now (arena .entry)) (now (terms .entry)) (now (used .entry))) (term kind (now (bytes .entry))) ⌝ }
+{
+    read_numbers(&*table, &mut *numbers);
+    let counters = Counters {
+        terms: *terms,
+        used: *used,
+    };
+    let next = put_by_value(&mut *numbers, &mut *arena, counters, kind, bytes);
+    write_back(next.number, &*numbers, &mut *table);
+    *terms = next.counters.terms;
+    *used = next.counters.used;
+    *id = next.id.0;
+    next.number
+}
+
+// Put, with numbers that suffice for every table.
+pub fn put_in(
+    numbers: &mut [u32],
+    table: &mut [u8],
+    arena: &mut [u8],
+    terms: &mut u32,
+    used: &mut u32,
+    kind: u32,
+    bytes: &[u8],
+    id: &mut u32,
+) -> u32
+    requires { ⌜ 262204 ≤ length (now numbers) ⌝ }
+    ensures { λ r. ⌜ put-result r (now (id .exit)) (dict (now (table .exit)) (now (arena .exit)) (now (terms .exit)) (now (used .exit))) ≡ put-bytes-give (dict (now (table .entry)) (now (arena .entry)) (now (terms .entry)) (now (used .entry))) (term kind (now (bytes .entry))) ⌝ }
+{
+    let n = how_many(table.len(), 262204, 1);
+    put_on(
+        &mut numbers[..n],
+        table,
+        arena,
+        terms,
+        used,
+        kind,
+        bytes,
+        id,
+    )
+}
+
+// Where a term's bytes lie in the arena, with its kind and the refusal's number.
+pub struct Place {
+    pub number: u32,
+    pub kind: u32,
+    pub begin: u32,
+    pub len: u32,
+}
+
+// The place that the entry of an id names, in a dictionary that is not broken.
+fn place_of(numbers: &[u32], arena: &[u8], counters: Counters, id: u32) -> Place
+    requires { ⌜ T (valid (contents (now numbers) (now arena) counters)) ⌝ }
+    ensures { λ r. ⌜ Places (contents (now (numbers .entry)) (now (arena .entry)) counters) id (placed r) ⌝ }
+{
+    if counters.terms <= id {
+        return Place {
+            number: 12,
+            kind: 0,
+            begin: 0,
+            len: 0,
+        };
+    }
+    let at = 64 + 4 * (id as usize);
+    Place {
+        number: 0,
+        kind: numbers[at + 2],
+        begin: numbers[at],
+        len: numbers[at + 1],
+    }
+}
+
+// Lookup, with as many numbers as it is handed.
+fn lookup_on(numbers: &mut [u32], table: &[u8], arena: &[u8], counters: Counters, id: u32) -> Place
+    requires { ⌜ length (now numbers) ≡ handed 262204 1 (length (now table)) ⌝ }
+    ensures { λ r. ⌜ Places (read-dict (contents (now (table .entry)) (now (arena .entry)) counters)) id (placed r) ⌝ }
+{
+    read_numbers(table, &mut *numbers);
+    if is_valid(&*numbers, arena, counters) {
+        return place_of(&*numbers, arena, counters, id);
+    }
+    Place {
+        number: 1,
+        kind: 0,
+        begin: 0,
+        len: 0,
+    }
+}
+
+// Lookup, with numbers that suffice for every table.
+pub fn lookup_in(
+    numbers: &mut [u32],
+    table: &[u8],
+    arena: &[u8],
+    terms: u32,
+    used: u32,
+    id: u32,
+    kind: &mut u32,
+    begin: &mut u64,
+    len: &mut u64,
+) -> u32
+    requires { ⌜ 262204 ≤ length (now numbers) ⌝ }
+    ensures { λ r. ⌜ Places (read-dict (dict (now (table .entry)) (now (arena .entry)) terms used)) id (place-answer r (now (kind .exit)) (now (begin .exit)) (now (len .exit))) ⌝ }
+{
+    let n = how_many(table.len(), 262204, 1);
+    let counters = Counters { terms, used };
+    let place = lookup_on(&mut numbers[..n], table, arena, counters, id);
+    *kind = place.kind;
+    *begin = place.begin as u64;
+    *len = place.len as u64;
+    place.number
+}
