@@ -1,5 +1,5 @@
 //! record FOLDER: the original's answers to a fixed list of models, as FOLDER/answers.txt, and what the cases after the tables of
-//! OWL 2 Profiles show, as FOLDER/cases.md. crates/replay/data/README.md has the format.
+//! OWL 2 Profiles show, as FOLDER/cases.md. crates/replay/README.md has the format.
 //!
 //! Every answer is the original's; the model of document 01 has to agree with it, and tells which rules a model needs.
 
@@ -12,7 +12,7 @@ use model::{Finding, Triple};
 use std::fmt::Write;
 use tables::{Case, Conclusion, CASES, NEAR};
 
-/// What a reader of answers.txt may rely on.
+/// What a reader of the recording may rely on.
 const MOST_TERMS: usize = 16;
 const MOST_LOAD: usize = 20;
 const MOST_CLOSED: usize = 200;
@@ -158,7 +158,7 @@ impl Terms {
 
 const HEAD: &str = "# Cases after the tables of OWL 2 Profiles, section 4.3
 
-The first models of answers.txt, in this order; made by harness/record, which checks each line against the original. 'Rule' is document
+The first models of the recording, in this order; made by harness/record, which checks each line against the original. 'Rule' is document
 01's number, 0 for a check or a part of the start. A letter is a term of its own, urn:t1 and so on in the order in which they first appear.
 'Alone': without this rule the other rules do not give the conclusion. What eq-trans gives eq-rep-o gives too, and what cax-eqc1 and
 cax-eqc2 give scm-eqc1 and cax-sco do, so no model shows those alone.

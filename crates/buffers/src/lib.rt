@@ -1,0 +1,35 @@
+// Buffers of numbers, compared: for the programs that hold a run to values written beforehand.
+ghost use mathlib.Core.Path.{_≡_};
+ghost use lib.ListN.{length, replicate};
+ghost use Rattle.index.specs.Dictionary.{same-row};
+
+// Whether two buffers hold the same numbers.
+pub fn same(a: &[u32], b: &[u32]) -> bool
+    ensures { λ r. ⌜ r ≡ same-row (now (a .entry)) (now (b .entry)) ⌝ }
+{
+    if a.len() != b.len() {
+        return false;
+    }
+    let mut i = 0;
+    while i < a.len() {
+        if a[i] != b[i] {
+            return false;
+        }
+        i += 1;
+    }
+    true
+}
+
+// Whether all numbers are zero.
+pub fn all_zero(a: &[u32]) -> bool
+    ensures { λ r. ⌜ r ≡ same-row (now (a .entry)) (replicate (length (now (a .entry))) 0) ⌝ }
+{
+    let mut i = 0;
+    while i < a.len() {
+        if a[i] != 0 {
+            return false;
+        }
+        i += 1;
+    }
+    true
+}
