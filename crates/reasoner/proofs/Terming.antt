@@ -26,7 +26,7 @@ use Rattle.index.proofs.Reading.{Lengths, lengths}
 use Rattle.start_rows.specs.declared.RunTerms as start
 use Rattle.start_rows.specs.Starting.{containers-by, Loadable, StartOf}
 use Rattle.start_rows.proofs.Starting.{rows-triples}
-use Rattle.rules.specs.Entries.{Entry, TableOfRules}
+use Rattle.rule_table.specs.Entries.{Entry, TableOfRules}
 use Rattle.disjoint_sets.specs.Lists.{Ready, Made, members-at, lists-at}
 use Rattle.closing.specs.Closing.{Closable}
 use Rattle.reasoner.specs.Run.{containers}

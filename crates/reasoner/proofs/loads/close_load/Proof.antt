@@ -11,7 +11,7 @@ use Rattle.reasoner.proofs.loads.close_load.Reads as reads
 use Rattle.reasoner.proofs.loads.close_load.Lts as lts
 use Rattle.closing.proofs.close.Reads as close-reads
 use Rattle.disjoint_sets.proofs.new.Reads as new-reads
-use Rattle.rules.proofs.table.Reads as table-reads
+use Rattle.rule_table.proofs.table.Reads as table-reads
 use Rattle.start_rows.proofs.start_rows.Reads as start-rows-reads
 
 -- src/loads.rt:51:9
