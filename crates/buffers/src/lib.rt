@@ -1,7 +1,7 @@
 // Buffers of numbers, compared: for the programs that hold a run to values written beforehand.
 ghost use mathlib.Core.Path.{_≡_};
 ghost use lib.ListN.{length, replicate};
-ghost use Rattle.index.specs.Dictionary.{same-row};
+ghost use Rattle.term_layout.specs.Dictionary.{same-row};
 
 // Whether two buffers hold the same numbers.
 pub fn same(a: &[u32], b: &[u32]) -> bool

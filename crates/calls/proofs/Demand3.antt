@@ -16,10 +16,10 @@ use Rattle.common.proofs.LoadClosure.{Closure, complete→, computed→, closur
 use Rattle.common.proofs.Batch.{in-without-zero→, in-without-zero←, without-zero-ascending}
 use Rattle.common.proofs.Run.{accepted→, same-swap, same-sub, batch-law}
 use Rattle.common.proofs.Rows.{triples-filled, findings-filled, total-findings}
-use Rattle.index.specs.Terms.{Term, start-terms}
-use Rattle.index.specs.Layout.{decode}
-use Rattle.index.specs.Calls.{start-gives}
-use Rattle.index.proofs.Decoding.{decode-layout}
+use Rattle.term_layout.specs.Terms.{Term, start-terms}
+use Rattle.term_layout.specs.Layout.{decode}
+use Rattle.term_layout.specs.Calls.{start-gives}
+use Rattle.term_layout.proofs.Decoding.{decode-layout}
 use Rattle.reasoner.specs.Run.{Lent, Run-answer, shown, containers, closed}
 use Rattle.calls.specs.Calls.{Call, run-on, run-gave, event, List-left, calls-give, events-of, terms-after}
 use Rattle.calls.specs.Demand3.{answer, found, Agree, Exact, Demand-3}

@@ -9,10 +9,10 @@ use native.Mathlib.Omega.{arith}
 use lib.Dec.{T, ltb, eqb, ltb→lt}
 use lib.ListN.{length, getD, length-append, List·getD-append}
 use Rattle.reasoner.specs.Run.{Lent, Run-answer, shown, Stop, first-met, run-stops, containers, Run-reckoned, closed, run-brought, run-passed, reckon-run}
-use Rattle.index.specs.Terms.{Term, no-term, property-term, membership-term, member-term, run-terms}
-use Rattle.index.specs.Dictionary.{same-term, place-from, id-of, kind-known, short, roomy, put-answer, put-at, reckon-put, Brought, full, brought, if-zero, bring}
-use Rattle.index.proofs.Equality.{same-term-refl}
-use Rattle.index.proofs.Holding.{Added, put-cases}
+use Rattle.term_layout.specs.Terms.{Term, no-term, property-term, membership-term, member-term, run-terms}
+use Rattle.term_layout.specs.Dictionary.{same-term, place-from, id-of, kind-known, short, roomy, put-answer, put-at, reckon-put, Brought, full, brought, if-zero, bring}
+use Rattle.term_layout.proofs.Equality.{same-term-refl}
+use Rattle.term_layout.proofs.Holding.{Added, put-cases}
 use Rattle.common.specs.Triples.{Triple, triple, Finding, In, here, there, if}
 use Rattle.common.specs.Containers.{is-container-term}
 use Rattle.common.specs.Table.{none, all}

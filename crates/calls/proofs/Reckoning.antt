@@ -5,12 +5,12 @@ use Prim.Native.Nat.{ℕ, zero, suc}
 use native.Mathlib.Omega.{arith}
 use lib.ListN.{length}
 use Rattle.reasoner.specs.Run.{Lent, unchanged, first-met, run-stops, run-brought, run-passed, reckon-run, Run-result, run-laid, run-gives}
-use Rattle.index.specs.Terms.{Term, start-terms, run-terms}
-use Rattle.index.specs.Layout.{Dict, layout}
-use Rattle.index.specs.Dictionary.{reckon-put, Brought, full, brought, if-zero, bring, Lookup-answer, lookup-answer, reckon-lookup}
-use Rattle.index.specs.Calls.{start-gives, Put-result, put-result, put-laid, put-gives, lookup-gives}
-use Rattle.index.proofs.Holding.{Holds, holds-put}
-use Rattle.index.proofs.Reachable.{on-layout, start-holds, start-leaves}
+use Rattle.term_layout.specs.Terms.{Term, start-terms, run-terms}
+use Rattle.term_layout.specs.Layout.{Dict, layout}
+use Rattle.term_layout.specs.Dictionary.{reckon-put, Brought, full, brought, if-zero, bring, Lookup-answer, lookup-answer, reckon-lookup}
+use Rattle.term_layout.specs.Calls.{start-gives, Put-result, put-result, put-laid, put-gives, lookup-gives}
+use Rattle.term_layout.proofs.Holding.{Holds, holds-put}
+use Rattle.term_layout.proofs.Reachable.{on-layout, start-holds, start-leaves}
 use Rattle.reasoner.proofs.Bringing.{bring-holds}
 use Rattle.calls.specs.Calls.{Call, put, lookup, run-on, put-gave, lookup-gave, run-gave, Left, call-gives, Reckoned, reckon, event, List-left, calls-give, events-of, terms-after}
 use Rattle.calls.specs.Demand3.{answer, reckoned}

@@ -4,10 +4,10 @@
 -- nothing.
 use mathlib.Core.List.{List, [], _∷_}
 use Prim.Native.Nat.{ℕ}
-use Rattle.index.specs.Terms.{Term}
-use Rattle.index.specs.Layout.{Dict}
-use Rattle.index.specs.Dictionary.{Lookup-answer, reckon-put, reckon-lookup}
-use Rattle.index.specs.Calls.{put-gives, lookup-gives}
+use Rattle.term_layout.specs.Terms.{Term}
+use Rattle.term_layout.specs.Layout.{Dict}
+use Rattle.term_layout.specs.Dictionary.{Lookup-answer, reckon-put, reckon-lookup}
+use Rattle.term_layout.specs.Calls.{put-gives, lookup-gives}
 use Rattle.reasoner.specs.Run.{Lent, Run-answer, reckon-run, run-gives}
 
 -- a call, with what it is lent besides the dictionary

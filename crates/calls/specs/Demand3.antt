@@ -13,9 +13,9 @@ use Rattle.common.specs.Containers.{Containers}
 use Rattle.common.specs.Closure.{IsClosure, no-zero, five-counts, total}
 use Rattle.common.specs.Rows.{triples, findings-of}
 use Rattle.common.specs.Batch.{Same, Conditions}
-use Rattle.index.specs.Terms.{start-terms}
-use Rattle.index.specs.Layout.{layout, decode}
-use Rattle.index.specs.Calls.{start-gives}
+use Rattle.term_layout.specs.Terms.{start-terms}
+use Rattle.term_layout.specs.Layout.{layout, decode}
+use Rattle.term_layout.specs.Calls.{start-gives}
 use Rattle.reasoner.specs.Run.{Lent, Run-answer, containers}
 use Rattle.calls.specs.Calls.{Call, run-on, run-gave, Event, event, List-left, calls-give, events-of, terms-after, number-of}
 

@@ -3,9 +3,9 @@ use mathlib.Core.Path.{_≡_, refl, sym, ap, _∙_}
 use mathlib.Core.List.{List}
 use Prim.Native.Nat.{ℕ, suc, _+_}
 use native.Mathlib.Numerals.{add-one}
-use Rattle.index.specs.Terms.{term}
-use Rattle.index.specs.Layout.{Dict}
-use Rattle.index.specs.Calls.{Put-result, put-gives}
+use Rattle.term_layout.specs.Terms.{term}
+use Rattle.term_layout.specs.Layout.{Dict}
+use Rattle.term_layout.specs.Calls.{Put-result, put-gives}
 use Rattle.closer_input.specs.Output.{name}
 use Rattle.closer_run.specs.Program.{named}
 

@@ -12,10 +12,10 @@ use Rattle.common.specs.Run.{accepted}
 use Rattle.common.specs.Rows.{triples}
 use Rattle.common.proofs.Run.{accepted→}
 use Rattle.common.proofs.Rows.{total-findings}
-use Rattle.index.specs.Layout.{Dict, decode}
-use Rattle.index.specs.Dictionary.{valid}
-use Rattle.index.specs.Calls.{Start-result, start-gives}
-use Rattle.index.specs.Terms.{Term}
+use Rattle.term_layout.specs.Layout.{Dict, decode}
+use Rattle.term_layout.specs.Dictionary.{valid}
+use Rattle.term_layout.specs.Calls.{Start-result, start-gives}
+use Rattle.term_layout.specs.Terms.{Term}
 use Rattle.reasoner.specs.Run.{Lent, lent, Run-answer, Run-result, unchanged, shown, containers, run-laid, reckon-run, run-gives}
 use Rattle.reasoner.specs.Values.{run-left}
 use Rattle.reasoner.specs.declared.values.RunAnswer.{RunAnswer}

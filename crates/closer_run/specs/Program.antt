@@ -5,9 +5,9 @@ use mathlib.Core.List.{List}
 use Prim.Native.Nat.{ℕ, zero, suc, _*_}
 use lib.ListN.{replicate}
 use Rattle.common.specs.Closure.{total}
-use Rattle.index.specs.Terms.{term}
-use Rattle.index.specs.Layout.{Dict}
-use Rattle.index.specs.Calls.{start-gives, put-gives}
+use Rattle.term_layout.specs.Terms.{term}
+use Rattle.term_layout.specs.Layout.{Dict}
+use Rattle.term_layout.specs.Calls.{start-gives, put-gives}
 use Rattle.reasoner.specs.Run.{Run-answer, lent, run-gives}
 use Rattle.closer_input.specs.Input.{Parsed, bad-line, input, parse}
 use Rattle.closer_input.specs.Output.{answer, refusal, bad-line-text, name}

@@ -17,7 +17,7 @@ ghost use mathlib.Core.Path.{_≡_};
 ghost use Prim.Native.Nat.{_≤_};
 ghost use lib.ListN.{length};
 ghost use Rattle.common.specs.Closure.{total as sum};
-ghost use Rattle.index.specs.Values.{contents};
+ghost use Rattle.term_layout.specs.Values.{contents};
 ghost use Rattle.closer_input.specs.Contracts.{Wrote};
 ghost use Rattle.closer_run.specs.Program.{named, ran, printed-run, output};
 ghost use Rattle.closer_run.specs.Contracts.{Ran};

@@ -6,10 +6,10 @@ use Prim.Native.Nat.{ℕ, _+_, _*_, _-_, _≤_, _<_}
 use native.Mathlib.Omega.{arith}
 use lib.Dec.{T}
 use lib.ListN.{length, take, drop, length-take, length-drop}
-use Rattle.index.specs.Layout.{Dict, dict}
-use Rattle.index.specs.Dictionary.{if-zero, Lookup-answer, lookup-answer, valid}
-use Rattle.index.specs.Calls.{lookup-gives}
-use Rattle.index.specs.Entries.{start-of, length-of, kind-of}
+use Rattle.term_layout.specs.Layout.{Dict, dict}
+use Rattle.term_layout.specs.Dictionary.{if-zero, Lookup-answer, lookup-answer, valid}
+use Rattle.term_layout.specs.Calls.{lookup-gives}
+use Rattle.term_entries.specs.Entries.{start-of, length-of, kind-of}
 use Rattle.index.proofs.Looking.{look-12, look-known, look-1}
 use Rattle.entry.specs.Bytes.{numbers-of, read-buffer}
 use Rattle.entry.specs.Calls.{Place-answer, place-answer, place-gives, Places}

@@ -9,11 +9,11 @@ use lib.Dec.{T}
 use lib.ListN.{length, replicate}
 use Rattle.common.specs.Rows.{flat, flat-findings, triples, zeros}
 use Rattle.common.specs.Run.{Outcome, store-full, findings-full, accepted, run}
-use Rattle.index.specs.Terms.{Term, run-terms}
-use Rattle.index.specs.Layout.{Dict, dict, layout, decode}
-use Rattle.index.specs.Dictionary.{Brought, full, brought, bring, valid}
-use Rattle.index.proofs.Choice.{if-yes, told-false, decide-bool}
-use Rattle.index.proofs.Reading.{count, lengths}
+use Rattle.term_layout.specs.Terms.{Term, run-terms}
+use Rattle.term_layout.specs.Layout.{Dict, dict, layout, decode}
+use Rattle.term_layout.specs.Dictionary.{Brought, full, brought, bring, valid}
+use Rattle.term_layout.proofs.Choice.{if-yes, told-false, decide-bool}
+use Rattle.term_entries.proofs.Reading.{count, lengths}
 use Rattle.reasoner.specs.Run.{Lent, lent, Run-answer, five-zeros, unchanged, shown, first-met, run-stops, containers, closed, Run-reckoned, run-passed, run-brought, reckon-run, Run-result, run-laid, run-gives}
 use Rattle.reasoner.specs.Values.{run-left}
 use Rattle.reasoner.specs.declared.values.RunNext.{RunNext}

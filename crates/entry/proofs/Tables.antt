@@ -8,16 +8,16 @@ use native.Mathlib.Omega.{arith}
 use lib.Dec.{T}
 use lib.ListN.{length}
 use Rattle.common.specs.Triples.{if}
-use Rattle.index.specs.Terms.{Term, start-terms}
-use Rattle.index.specs.Layout.{Dict, dict, layout}
-use Rattle.index.specs.Dictionary.{sized, start-fits, start-refusal, valid}
-use Rattle.index.specs.Calls.{Start-result, start-result, start-gives, Put-result, put-result, put-gives}
+use Rattle.term_layout.specs.Terms.{Term, start-terms}
+use Rattle.term_layout.specs.Layout.{Dict, dict, layout}
+use Rattle.term_layout.specs.Dictionary.{sized, start-fits, start-refusal, valid}
+use Rattle.term_layout.specs.Calls.{Start-result, start-result, start-gives, Put-result, put-result, put-gives}
 use Rattle.index.specs.Values.{start-left, put-left}
 use Rattle.index.specs.declared.values.Started.{Started}
 use Rattle.index.specs.declared.values.PutNext.{PutNext}
-use Rattle.index.proofs.Choice.{is-false, told-false, decide-bool}
-use Rattle.index.proofs.Holding.{valid→, sized→}
-use Rattle.index.proofs.Reachable.{refusal-4, refusal-none, start-accepts, start-refuses, put-broken}
+use Rattle.term_layout.proofs.Choice.{is-false, told-false, decide-bool}
+use Rattle.term_layout.proofs.Holding.{valid→, sized→}
+use Rattle.term_layout.proofs.Reachable.{refusal-4, refusal-none, start-accepts, start-refuses, put-broken}
 use Rattle.entry.specs.Bytes.{numbers-of, read-buffer, changes, left-bytes}
 use Rattle.entry.specs.Calls.{start-in-bytes, start-bytes-give, put-in-bytes, put-bytes-give}
 use Rattle.entry.proofs.Coding.{left-alone}

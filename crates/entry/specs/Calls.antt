@@ -5,11 +5,11 @@ use mathlib.Core.List.{List}
 use mathlib.Core.Path.{_≡_}
 use Prim.Native.Nat.{ℕ, _+_, _/_, _%_, _≤_}
 use lib.ListN.{length, take, drop}
-use Rattle.index.specs.Terms.{Term}
-use Rattle.index.specs.Layout.{Dict, dict}
-use Rattle.index.specs.Dictionary.{if-zero}
-use Rattle.index.specs.Entries.{start-of}
-use Rattle.index.specs.Calls.{Start-result, start-result, start-gives, Put-result, put-result, put-gives, lookup-gives}
+use Rattle.term_layout.specs.Terms.{Term}
+use Rattle.term_layout.specs.Layout.{Dict, dict}
+use Rattle.term_layout.specs.Dictionary.{if-zero}
+use Rattle.term_entries.specs.Entries.{start-of}
+use Rattle.term_layout.specs.Calls.{Start-result, start-result, start-gives, Put-result, put-result, put-gives, lookup-gives}
 use Rattle.reasoner.specs.Run.{Lent, lent, Run-result, run-gives}
 use Rattle.entry.specs.Bytes.{read-buffer, left-bytes, handed}
 

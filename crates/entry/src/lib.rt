@@ -9,9 +9,9 @@ use crate::dictionary::put_in;
 use crate::dictionary::start_in;
 use crate::run::run_in;
 ghost use mathlib.Core.Path.{_≡_};
-ghost use Rattle.index.specs.Terms.{term};
-ghost use Rattle.index.specs.Layout.{dict};
-ghost use Rattle.index.specs.Calls.{start-result, put-result};
+ghost use Rattle.term_layout.specs.Terms.{term};
+ghost use Rattle.term_layout.specs.Layout.{dict};
+ghost use Rattle.term_layout.specs.Calls.{start-result, put-result};
 ghost use Rattle.reasoner.specs.Run.{lent};
 ghost use Rattle.entry.specs.Calls.{read-dict, start-bytes-give, put-bytes-give, place-answer, Places, run-bytes-give, run-result};
 

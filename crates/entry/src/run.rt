@@ -6,7 +6,7 @@ use crate::numbers::write_back;
 use index::Counters;
 use reasoner::run;
 ghost use mathlib.Core.Path.{_≡_};
-ghost use Rattle.index.specs.Layout.{dict};
+ghost use Rattle.term_layout.specs.Layout.{dict};
 ghost use Rattle.reasoner.specs.Run.{lent};
 ghost use Rattle.entry.specs.Calls.{run-bytes-give, run-result, Handed-on, Enough};
 

@@ -4,20 +4,20 @@ use mathlib.Core.List.{List, [], _∷_}
 use Prim.Native.Nat.{ℕ, _+_, _*_}
 use lib.ListN.{take, drop, replicate}
 use Rattle.common.specs.Text.{text}
-use Rattle.index.specs.Terms.{Term, term, rdf, start-terms}
-use Rattle.index.specs.Layout.{Dict, dict, heads, entries, span, layout, read, decode}
-use Rattle.index.specs.Dictionary.{place-from, reckon-put, lookup-answer, reckon-lookup, start-refusal, grows, begins, holdable, valid}
-use Rattle.index.specs.Calls.{start-gives, put-gives, lookup-gives}
+use Rattle.term_layout.specs.Terms.{Term, term, rdf, start-terms}
+use Rattle.term_layout.specs.Layout.{Dict, dict, heads, entries, span, layout, read, decode}
+use Rattle.term_layout.specs.Dictionary.{place-from, reckon-put, lookup-answer, reckon-lookup, start-refusal, grows, begins, holdable, valid}
+use Rattle.term_layout.specs.Calls.{start-gives, put-gives, lookup-gives}
 -- a start's refusals: tables of 63 and 189 numbers are ill-sized; 30 entries are too few, and so are 1,324 bytes
 use mathlib.Core.Path.{_≡_, refl}
 use mathlib.Core.List.{List, [], _∷_}
 use Prim.Native.Nat.{ℕ, _+_, _*_}
 use lib.ListN.{take, drop, replicate}
 use Rattle.common.specs.Text.{text}
-use Rattle.index.specs.Terms.{Term, term, rdf, start-terms}
-use Rattle.index.specs.Layout.{Dict, dict, heads, entries, span, layout, read, decode}
-use Rattle.index.specs.Dictionary.{place-from, reckon-put, lookup-answer, reckon-lookup, grows, begins, holdable, valid}
-use Rattle.index.specs.Calls.{start-gives, put-gives, lookup-gives}
+use Rattle.term_layout.specs.Terms.{Term, term, rdf, start-terms}
+use Rattle.term_layout.specs.Layout.{Dict, dict, heads, entries, span, layout, read, decode}
+use Rattle.term_layout.specs.Dictionary.{place-from, reckon-put, lookup-answer, reckon-lookup, grows, begins, holdable, valid}
+use Rattle.term_layout.specs.Calls.{start-gives, put-gives, lookup-gives}
 
 abbrev start-number : ℕ → ℕ → ℕ
 start-number tl al = start-gives (replicate tl 7) (replicate al 7) .number

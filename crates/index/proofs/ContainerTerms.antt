@@ -14,14 +14,14 @@ use Rattle.index.specs.declared.values.Located.{Located}
 use Rattle.common.specs.Triples.{if}
 use Rattle.common.specs.Containers.{prefix, starts-with, is-digit, all-digits, value, is-number, is-container-term}
 use Rattle.common.proofs.Lists.{and→, and←, eq→eqb}
-use Rattle.index.specs.Terms.{Term, no-term}
-use Rattle.index.specs.Layout.{Dict, decode}
-use Rattle.index.specs.Dictionary.{same-row, Lookup-answer, term-of, reckon-lookup, valid}
-use Rattle.index.specs.Calls.{lookup-gives}
+use Rattle.term_layout.specs.Terms.{Term, no-term}
+use Rattle.term_layout.specs.Layout.{Dict, decode}
+use Rattle.term_layout.specs.Dictionary.{same-row, Lookup-answer, term-of, reckon-lookup, valid}
+use Rattle.term_layout.specs.Calls.{lookup-gives}
 use Rattle.index.specs.Values.{Locates}
-use Rattle.index.proofs.Choice.{if-yes, if-no, is-false, told-true, told-false}
-use Rattle.index.proofs.Rows.{lengths-differ}
-use Rattle.index.proofs.Reachable.{lookup-valid}
+use Rattle.term_layout.proofs.Choice.{if-yes, if-no, is-false, told-true, told-false}
+use Rattle.term_layout.proofs.Rows.{lengths-differ}
+use Rattle.term_layout.proofs.Reachable.{lookup-valid}
 use Rattle.index.proofs.Looking.{reckon-12, reckon-known}
 
 -- a prefix is compared with as many bytes

@@ -5,16 +5,16 @@ use Prim.Native.Nat.{ℕ, _+_, _-_, _≤_, _<_}
 use native.Mathlib.Omega.{arith}
 use lib.Dec.{T, ltb, ltb→lt, lt→ltb}
 use lib.ListN.{length, take, drop}
-use Rattle.index.specs.Terms.{Term}
-use Rattle.index.specs.Layout.{Dict, decode}
-use Rattle.index.specs.Dictionary.{lookup-answer, term-of, reckon-lookup, valid}
-use Rattle.index.specs.Calls.{lookup-gives}
-use Rattle.index.specs.Entries.{start-of, length-of, kind-of}
+use Rattle.term_layout.specs.Terms.{Term}
+use Rattle.term_layout.specs.Layout.{Dict, decode}
+use Rattle.term_layout.specs.Dictionary.{lookup-answer, term-of, reckon-lookup, valid}
+use Rattle.term_layout.specs.Calls.{lookup-gives}
+use Rattle.term_entries.specs.Entries.{start-of, length-of, kind-of}
 use Rattle.index.specs.Values.{Locates}
-use Rattle.index.proofs.Choice.{if-yes, if-no}
-use Rattle.index.proofs.Reachable.{lookup-valid, lookup-broken}
+use Rattle.term_layout.proofs.Choice.{if-yes, if-no}
+use Rattle.term_layout.proofs.Reachable.{lookup-valid, lookup-broken}
 use Rattle.index.proofs.Cases.{answers}
-use Rattle.index.proofs.Reading.{count, entry-names, entry-fits}
+use Rattle.term_entries.proofs.Reading.{count, entry-names, entry-fits}
 
 module _ (ts : List Term) (i : ℕ) where
   pub reckon-12 : length ts ≤ i → reckon-lookup ts i ≡ lookup-answer 12 0 []

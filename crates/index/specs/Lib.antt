@@ -1,10 +1,1 @@
-pub mod Terms
-pub mod Layout
-pub mod Dictionary
-pub mod Calls
-pub mod Entries
-pub mod Starting
-pub mod Running
 pub mod Values
-pub mod Digest
-pub mod Scanning

@@ -1,21 +1,16 @@
--- The contents and answers that values of the types of src/ stand for. Assumes nothing.
+-- The answers that values of the types of src/ stand for. Assumes nothing.
 use mathlib.Core.Path.{_≡_}
 use mathlib.Core.List.{List}
 use Prim.Native.Nat.{ℕ, _-_, _≤_}
 use lib.ListN.{length, take, drop}
-use Rattle.index.specs.declared.values.Counters.{Counters}
+use Rattle.term_layout.specs.declared.values.Counters.{Counters}
 use Rattle.index.specs.declared.values.Located.{Located}
 use Rattle.index.specs.declared.values.Put.{Put}
 use Rattle.index.specs.declared.values.PutNext.{PutNext}
-use Rattle.index.specs.declared.values.RunTerms.{RunTerms}
 use Rattle.index.specs.declared.values.Started.{Started}
-use Rattle.index.specs.Layout.{Dict, dict}
-use Rattle.index.specs.Dictionary.{Lookup-answer, lookup-answer}
-use Rattle.index.specs.Calls.{Start-result, start-result, Put-result, put-result, Run-terms-result, run-terms-result}
-
--- a table, an arena and the counters
-abbrev pub contents : List ℕ → List ℕ → Counters → Dict
-contents t a c = dict t a (c .terms) (c .used)
+use Rattle.term_layout.specs.Dictionary.{Lookup-answer, lookup-answer}
+use Rattle.term_layout.specs.Calls.{Start-result, start-result, Put-result, put-result}
+use Rattle.term_layout.specs.Values.{contents}
 
 -- the answer of a start, with the table and the arena as they are left
 abbrev pub start-left : Started → List ℕ → List ℕ → Start-result
@@ -28,10 +23,6 @@ put-left r t a = put-result (r .number) (r .id .0) (contents t a (r .counters))
 -- the answer of a put with lent counters, with table, arena and counters as they are left
 abbrev pub put-lent : Put → List ℕ → List ℕ → Counters → Put-result
 put-lent r t a c = put-result (r .number) (r .id .0) (contents t a c)
-
--- the answer of the put of a run's terms, with the table and the arena as they are left
-abbrev pub run-terms-left : RunTerms → List ℕ → List ℕ → Run-terms-result
-run-terms-left r t a = run-terms-result (r .number) (r .property .0) (r .membership .0) (r .member .0) (contents t a (r .counters))
 
 -- the answer of a lookup whose part lies at a place of the arena
 abbrev pub located : Located → List ℕ → Lookup-answer

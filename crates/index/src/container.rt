@@ -1,14 +1,14 @@
 // Container properties: named nodes of the rdf namespace whose local name is `_` and a number.
-use crate::bytes::same_bytes;
 use crate::inner::locate;
-use crate::values::Counters;
 use common::Id;
+use term_layout::Counters;
+use term_layout::bytes::same_bytes;
 ghost use mathlib.Core.Path.{_≡_};
 ghost use lib.Dec.{T};
 ghost use Rattle.common.specs.Containers.{starts-with, is-number, is-container-term};
-ghost use Rattle.index.specs.Layout.{decode};
-ghost use Rattle.index.specs.Dictionary.{valid, term-of};
-ghost use Rattle.index.specs.Values.{contents};
+ghost use Rattle.term_layout.specs.Layout.{decode};
+ghost use Rattle.term_layout.specs.Dictionary.{valid, term-of};
+ghost use Rattle.term_layout.specs.Values.{contents};
 
 // Whether the bytes begin with the prefix.
 fn begins_with(bytes: &[u8], prefix: &[u8]) -> bool

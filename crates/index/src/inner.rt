@@ -1,19 +1,20 @@
 // Put and lookup where the contents are known to be a dictionary's: for those that test them once and not at each call.
-use crate::append::append;
-use crate::entry::find;
-use crate::hash::digest;
-use crate::values::Counters;
 use crate::values::Located;
 use crate::values::PutNext;
 use common::Id;
+use term_entries::append::append;
+use term_entries::entry::find;
+use term_layout::Counters;
+use term_layout::hash::digest;
 ghost use mathlib.Core.Path.{_≡_};
 ghost use Prim.Native.Nat.{_≤_};
 ghost use lib.Dec.{T};
 ghost use lib.ListN.{length};
-ghost use Rattle.index.specs.Terms.{term};
-ghost use Rattle.index.specs.Dictionary.{valid, lookup-answer};
-ghost use Rattle.index.specs.Calls.{put-gives, lookup-gives};
-ghost use Rattle.index.specs.Values.{contents, put-left, located, Locates};
+ghost use Rattle.term_layout.specs.Terms.{term};
+ghost use Rattle.term_layout.specs.Dictionary.{valid, lookup-answer};
+ghost use Rattle.term_layout.specs.Calls.{put-gives, lookup-gives};
+ghost use Rattle.term_layout.specs.Values.{contents};
+ghost use Rattle.index.specs.Values.{put-left, located, Locates};
 
 // A refusal leaves the counters as they are.
 pub fn refused(number: u32, counters: Counters) -> PutNext

@@ -1,39 +1,31 @@
 // The dictionary, as index.rs has it: start, put and lookup, for all inputs.
-mod append;
-mod bytes;
-mod container;
-mod entry;
-mod hash;
-mod initial;
-mod inner;
-mod run;
-mod valid;
-mod values;
+mod container; // container.rt: container properties
+mod inner; // inner.rt: put and lookup where the contents are known to be a dictionary's
+mod values; // values.rt: what the calls answer
 
-use bytes::clear_bytes;
-use bytes::clear_numbers;
 use common::Id;
 pub use container::is_container;
-use initial::enter_all;
-use initial::refusal;
 pub use inner::locate;
 pub use inner::lookup_valid;
 use inner::part;
 pub use inner::put_valid;
 use inner::refused;
-pub use run::put_run_terms;
+use term_entries::initial::enter_all;
+use term_entries::initial::refusal;
+pub use term_layout::Counters;
+use term_layout::bytes::clear_bytes;
+use term_layout::bytes::clear_numbers;
 pub use valid::is_valid;
-pub use values::Counters;
 pub use values::Located;
 pub use values::Put;
 pub use values::PutNext;
-pub use values::RunTerms;
 pub use values::Started;
 ghost use mathlib.Core.Path.{_≡_};
-ghost use Rattle.index.specs.Terms.{term};
-ghost use Rattle.index.specs.Dictionary.{lookup-answer};
-ghost use Rattle.index.specs.Calls.{start-gives, put-gives, lookup-gives};
-ghost use Rattle.index.specs.Values.{contents, start-left, put-left, put-lent, Locates};
+ghost use Rattle.term_layout.specs.Terms.{term};
+ghost use Rattle.term_layout.specs.Dictionary.{lookup-answer};
+ghost use Rattle.term_layout.specs.Calls.{start-gives, put-gives, lookup-gives};
+ghost use Rattle.term_layout.specs.Values.{contents};
+ghost use Rattle.index.specs.Values.{start-left, put-left, put-lent, Locates};
 
 // Starts a dictionary in any table and arena that are well sized and large enough.
 pub fn start(table: &mut [u32], arena: &mut [u8]) -> Started

@@ -10,10 +10,10 @@ use lib.Dec.{T}
 use lib.ListN.{length, length-append}
 use Rattle.common.specs.Triples.{In, if}
 use Rattle.common.proofs.Lists.{in-nil, in-cons}
-use Rattle.index.specs.Terms.{Term}
-use Rattle.index.specs.Dictionary.{same-term, place-from, kind-known, short, roomy, put-answer, put-at, reckon-put, Brought, full, brought, if-zero, bring}
-use Rattle.index.proofs.Equality.{same-term-refl}
-use Rattle.index.proofs.Holding.{Added, put-cases, Holds, holds-put}
+use Rattle.term_layout.specs.Terms.{Term}
+use Rattle.term_layout.specs.Dictionary.{same-term, place-from, kind-known, short, roomy, put-answer, put-at, reckon-put, Brought, full, brought, if-zero, bring}
+use Rattle.term_layout.proofs.Equality.{same-term-refl}
+use Rattle.term_layout.proofs.Holding.{Added, put-cases, Holds, holds-put}
 
 -- more terms behind these
 abbrev pub Grown : List Term → List Term → Type 0

@@ -13,17 +13,17 @@ use Rattle.common.specs.Table.{all}
 use Rattle.common.specs.Rows.{triples}
 use Rattle.rows.proofs.Cases.{le-or, true-false}
 use Rattle.checks.specs.Findings.{Buffer}
-use Rattle.index.specs.Terms.{Term, property-term, membership-term, member-term, run-terms}
-use Rattle.index.specs.Layout.{Dict, layout, decode}
-use Rattle.index.specs.Dictionary.{place-of, id-of, Brought, full, brought, bring, valid}
-use Rattle.index.specs.Calls.{Run-terms-result, run-terms-result, run-terms-laid, run-terms-give}
-use Rattle.index.specs.Values.{contents, run-terms-left}
-use Rattle.index.specs.declared.values.Counters.{Counters}
-use Rattle.index.specs.declared.values.RunTerms.{RunTerms}
-use Rattle.index.proofs.Choice.{if-yes, if-no}
-use Rattle.index.proofs.Decoding.{decode-layout}
-use Rattle.index.proofs.Holding.{Holds, valid→, valid-layout}
-use Rattle.index.proofs.Reading.{held, count}
+use Rattle.term_layout.specs.Terms.{Term, property-term, membership-term, member-term, run-terms}
+use Rattle.term_layout.specs.Layout.{Dict, layout, decode}
+use Rattle.term_layout.specs.Dictionary.{place-of, id-of, Brought, full, brought, bring, valid}
+use Rattle.term_layout.specs.Values.{contents}
+use Rattle.run_terms.specs.Calls.{Run-terms-result, run-terms-result, run-terms-laid, run-terms-give, run-terms-left}
+use Rattle.term_layout.specs.declared.values.Counters.{Counters}
+use Rattle.run_terms.specs.declared.values.RunTerms.{RunTerms}
+use Rattle.term_layout.proofs.Choice.{if-yes, if-no}
+use Rattle.term_layout.proofs.Decoding.{decode-layout}
+use Rattle.term_layout.proofs.Holding.{Holds, valid→, valid-layout}
+use Rattle.term_entries.proofs.Reading.{held, count}
 use Rattle.reasoner.specs.declared.values.RunAnswer.{RunAnswer}
 use Rattle.reasoner.specs.Run.{Lent, Run-answer, unchanged, shown, first-met, run-stops, closed, Run-reckoned, run-brought, run-passed, reckon-run, Run-result, run-laid, run-gives}
 use Rattle.reasoner.specs.Loads.{Termed, Loaded}

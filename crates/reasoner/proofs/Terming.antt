@@ -18,11 +18,11 @@ use Rattle.rows.specs.Rows.{width, rowAt, rows}
 use Rattle.rows.specs.Chains.{keys, block}
 use Rattle.rows.specs.Store.{Small, Good, Extended}
 use Rattle.rows.proofs.Rows.{in-rows←}
-use Rattle.index.specs.Layout.{Dict, decode}
-use Rattle.index.specs.Dictionary.{valid}
-use Rattle.index.specs.Values.{contents}
-use Rattle.index.specs.declared.values.RunTerms.{RunTerms}
-use Rattle.index.proofs.Reading.{Lengths, lengths}
+use Rattle.term_layout.specs.Layout.{Dict, decode}
+use Rattle.term_layout.specs.Dictionary.{valid}
+use Rattle.term_layout.specs.Values.{contents}
+use Rattle.run_terms.specs.declared.values.RunTerms.{RunTerms}
+use Rattle.term_entries.proofs.Reading.{Lengths, lengths}
 use Rattle.start_rows.specs.declared.RunTerms as start
 use Rattle.start_rows.specs.Starting.{containers-by, Loadable, StartOf}
 use Rattle.start_rows.proofs.Starting.{rows-triples}

@@ -1,7 +1,7 @@
 -- The answers that values of the types of src/ stand for, with the buffers as they are left. Assumes nothing.
 use mathlib.Core.List.{List}
 use Prim.Native.Nat.{ℕ}
-use Rattle.index.specs.Values.{contents}
+use Rattle.term_layout.specs.Values.{contents}
 use Rattle.reasoner.specs.declared.values.RunAnswer.{RunAnswer}
 use Rattle.reasoner.specs.declared.values.RunNext.{RunNext}
 use Rattle.reasoner.specs.Run.{Run-answer, Run-result}

@@ -6,12 +6,12 @@ mod values; // values.rt: what a run answers
 use crate::loads::run_load;
 use index::Counters;
 use index::is_valid;
-use index::put_run_terms;
 pub use refusals::refusal;
+use run_terms::put_run_terms;
 pub use values::RunAnswer;
 pub use values::RunNext;
 ghost use mathlib.Core.Path.{_≡_};
-ghost use Rattle.index.specs.Values.{contents};
+ghost use Rattle.term_layout.specs.Values.{contents};
 ghost use Rattle.reasoner.specs.Run.{five-zeros, lent, run-gives};
 ghost use Rattle.reasoner.specs.Values.{run-left};
 

@@ -3,7 +3,7 @@ use Prim.Native.Nat.{_-_}
 use native.Mathlib.Omega.{arith}
 use lib.ListN.{length}
 use borrow.Author.Count.{below-more}
-use Rattle.index.proofs.Rows.{Zeros, not-zeros, told-zeros}
+use Rattle.term_layout.proofs.Rows.{Zeros, not-zeros, told-zeros}
 use Rattle.buffers.proofs.all_zero.Statement.{statement}
 use Rattle.buffers.proofs.all_zero.Tie as tie
 

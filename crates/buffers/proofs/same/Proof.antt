@@ -4,7 +4,7 @@ use Prim.Native.Nat.{_-_}
 use native.Mathlib.Omega.{arith}
 use lib.ListN.{length}
 use borrow.Author.Count.{below-more}
-use Rattle.index.proofs.Rows.{Agree, lengths-differ, place-differs, all-agree}
+use Rattle.term_layout.proofs.Rows.{Agree, lengths-differ, place-differs, all-agree}
 use Rattle.buffers.proofs.same.Statement.{statement}
 use Rattle.buffers.proofs.same.Tie as tie
 

@@ -1,5 +1,6 @@
 -- `close_load` meets its contract. Assumes nothing.
-use Rattle.index.specs.Values.{contents, start-left}
+use Rattle.term_layout.specs.Values.{contents}
+use Rattle.index.specs.Values.{start-left}
 use Rattle.closer_run.proofs.Printing.{ran-as}
 use borrow.Author.Needs.{needs}
 use Rattle.closer_run.proofs.close_load.Statement.{statement}

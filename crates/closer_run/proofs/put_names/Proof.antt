@@ -4,7 +4,8 @@ use mathlib.Core.Path.{_≡_, ap, _∙_}
 use lib.ListN.{length}
 use native.Mathlib.Omega.{arith}
 use borrow.Author.Needs.{needs}
-use Rattle.index.specs.Values.{contents, put-left}
+use Rattle.term_layout.specs.Values.{contents}
+use Rattle.index.specs.Values.{put-left}
 use Rattle.closer_input.proofs.Writing.{wrote-front}
 use Rattle.closer_run.specs.Program.{named}
 use Rattle.closer_run.proofs.Names.{no-names, next-name}

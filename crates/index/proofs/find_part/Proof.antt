@@ -1,9 +1,9 @@
 -- `index::find_part` meets its contract. Assumes nothing.
 use mathlib.Core.Path.{sym, _∙_}
 use borrow.Author.Needs.{needs}
-use Rattle.index.specs.Dictionary.{valid}
-use Rattle.index.specs.Values.{contents}
-use Rattle.index.proofs.Choice.{told-true, told-false}
+use Rattle.term_layout.specs.Dictionary.{valid}
+use Rattle.term_layout.specs.Values.{contents}
+use Rattle.term_layout.proofs.Choice.{told-true, told-false}
 use Rattle.index.proofs.Looking.{look-1}
 use Rattle.index.proofs.find_part.Statement.{statement}
 use Rattle.index.proofs.find_part.Tie as tie

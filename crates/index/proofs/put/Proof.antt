@@ -42,14 +42,15 @@ use denote.Triple.Spec.{Meets, tripleOf}
 use denote.Triple.Table.{entered, cited}
 use denote.Triple.Walked.{says, Stays, stay-ref, stay-none, gave-slice, stay-none-slice, walkOf, AllGo, goes-none, goes-ref, goes-gave-slice, goes-none-slice, Walks, ends-at, walked, walk-meets}
 use denote.Exit.{yes}
-use Rattle.index.specs.declared.values.Counters.{Counters}
+use Rattle.term_layout.specs.declared.values.Counters.{Counters}
 use Rattle.index.specs.declared.values.Put.{Put}
 use Rattle.index.specs.declared.values.PutNext.{PutNext}
-use Rattle.index.specs.Terms.{term}
-use Rattle.index.specs.Calls.{Put-result, put-gives}
-use Rattle.index.specs.Values.{contents, put-left}
-use Rattle.index.proofs.values.Counters as T
-use Rattle.index.proofs.values.Counters.Laws as T′
+use Rattle.term_layout.specs.Terms.{term}
+use Rattle.term_layout.specs.Calls.{Put-result, put-gives}
+use Rattle.term_layout.specs.Values.{contents}
+use Rattle.index.specs.Values.{put-left}
+use Rattle.term_layout.proofs.values.Counters as T
+use Rattle.term_layout.proofs.values.Counters.Laws as T′
 use Rattle.index.proofs.values.Put as P
 use Rattle.index.proofs.values.Put.Laws as P′
 use Rattle.index.proofs.values.PutNext as S

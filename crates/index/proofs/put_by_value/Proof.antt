@@ -2,11 +2,12 @@
 use mathlib.Core.Path.{sym, _∙_, ap}
 use borrow.Author.Needs.{needs}
 use Rattle.index.specs.declared.values.PutNext.{PutNext}
-use Rattle.index.specs.Terms.{term}
-use Rattle.index.specs.Dictionary.{valid}
-use Rattle.index.specs.Values.{contents, put-left}
-use Rattle.index.proofs.Choice.{told-true, told-false}
-use Rattle.index.proofs.Reachable.{put-broken}
+use Rattle.term_layout.specs.Terms.{term}
+use Rattle.term_layout.specs.Dictionary.{valid}
+use Rattle.term_layout.specs.Values.{contents}
+use Rattle.index.specs.Values.{put-left}
+use Rattle.term_layout.proofs.Choice.{told-true, told-false}
+use Rattle.term_layout.proofs.Reachable.{put-broken}
 use Rattle.index.proofs.put_by_value.Statement.{statement}
 use Rattle.index.proofs.put_by_value.Tie as tie
 

@@ -2,8 +2,8 @@
 use mathlib.Core.Path.{sym, _∙_}
 use borrow.Author.Needs.{needs}
 use lib.ListN.{length}
-use Rattle.index.proofs.Reachable.{start-refuses}
-use Rattle.index.proofs.Starting.{blank-cleared, start-done}
+use Rattle.term_layout.proofs.Reachable.{start-refuses}
+use Rattle.term_entries.proofs.Starting.{blank-cleared, start-done}
 use Rattle.index.proofs.start.Statement.{statement}
 use Rattle.index.proofs.start.Tie as tie
 

@@ -1,9 +1,10 @@
 -- `reasoner::run` meets its contract. Assumes nothing.
 use mathlib.Core.Path.{refl, sym, ap, _∙_}
-use Rattle.index.specs.Layout.{Dict}
-use Rattle.index.specs.Dictionary.{valid}
-use Rattle.index.specs.Values.{contents, run-terms-left}
-use Rattle.index.proofs.Choice.{told-true, told-false}
+use Rattle.term_layout.specs.Layout.{Dict}
+use Rattle.term_layout.specs.Dictionary.{valid}
+use Rattle.term_layout.specs.Values.{contents}
+use Rattle.run_terms.specs.Calls.{run-terms-left}
+use Rattle.term_layout.proofs.Choice.{told-true, told-false}
 use Rattle.reasoner.specs.declared.values.RunNext.{RunNext}
 use Rattle.reasoner.specs.Run.{Run-answer, Run-result, lent, unchanged}
 use Rattle.reasoner.specs.Values.{run-left}
@@ -13,8 +14,8 @@ use Rattle.reasoner.proofs.run.Statement.{statement}
 use Rattle.reasoner.proofs.run.Tie as tie
 use Rattle.reasoner.proofs.run.Reads as reads
 use Rattle.reasoner.proofs.run.Lts as lts
-use Rattle.index.proofs.put_run_terms.Reads as put-run-terms-reads
-use Rattle.index.proofs.is_valid.Reads as is-valid-reads
+use Rattle.run_terms.proofs.put_run_terms.Reads as put-run-terms-reads
+use Rattle.valid.proofs.is_valid.Reads as is-valid-reads
 use Rattle.reasoner.proofs.loads.run_load.Reads as run-load-reads
 use Rattle.reasoner.proofs.refusals.refusal.Reads as refusal-reads
 use Rattle.reasoner.proofs.refused.Reads as refused-reads

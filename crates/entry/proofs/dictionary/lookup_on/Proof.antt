@@ -1,9 +1,9 @@
 use mathlib.Core.Path.{sym, ap, _∙_}
 use Prim.Native.Nat.{ℕ, _*_}
 use lib.ListN.{length}
-use Rattle.index.specs.Dictionary.{valid}
-use Rattle.index.specs.Values.{contents}
-use Rattle.index.proofs.Choice.{told-true, told-false}
+use Rattle.term_layout.specs.Dictionary.{valid}
+use Rattle.term_layout.specs.Values.{contents}
+use Rattle.term_layout.proofs.Choice.{told-true, told-false}
 use Rattle.entry.specs.Calls.{place-answer}
 use Rattle.entry.specs.Values.{placed}
 use Rattle.entry.proofs.Handing.{by-length}
@@ -15,7 +15,7 @@ use Rattle.entry.proofs.dictionary.lookup_on.Reads as reads
 use Rattle.entry.proofs.dictionary.lookup_on.Lts as lts
 use Rattle.entry.proofs.dictionary.place_of.Reads as place-of-reads
 use Rattle.entry.proofs.numbers.read_numbers.Reads as read-numbers-reads
-use Rattle.index.proofs.is_valid.Reads as is-valid-reads
+use Rattle.valid.proofs.is_valid.Reads as is-valid-reads
 
 -- src/dictionary.rt:150:5
 read-numbers-requires : tie.Need-read-numbers-requires

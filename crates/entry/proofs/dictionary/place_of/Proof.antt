@@ -1,6 +1,6 @@
 use native.Mathlib.Omega.{arith}
-use Rattle.index.specs.Values.{contents}
-use Rattle.index.proofs.Reading.{entry-fits}
+use Rattle.term_layout.specs.Values.{contents}
+use Rattle.term_entries.proofs.Reading.{entry-fits}
 use Rattle.entry.proofs.Places.{place-12, place-known}
 use borrow.Author.Needs.{needs}
 use Rattle.entry.proofs.dictionary.place_of.Statement.{statement}

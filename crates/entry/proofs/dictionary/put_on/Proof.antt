@@ -2,7 +2,7 @@ use lib.ListN.{length}
 use Rattle.entry.proofs.Handing.{by-length}
 use mathlib.Core.Path.{_≡_, ap, _∙_}
 use Prim.Native.Nat.{ℕ, _*_}
-use Rattle.index.specs.Terms.{term}
+use Rattle.term_layout.specs.Terms.{term}
 use Rattle.entry.proofs.Tables.{put-room, put-done}
 use borrow.Author.Needs.{needs}
 use Rattle.entry.proofs.dictionary.put_on.Statement.{statement}

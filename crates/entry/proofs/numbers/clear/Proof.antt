@@ -4,7 +4,7 @@ use Prim.Native.Nat.{_-_}
 use native.Mathlib.Omega.{arith}
 use lib.ListN.{length}
 use Rattle.common.specs.Rows.{zeros}
-use Rattle.index.proofs.Rows.{Cleared, clear-more, clear-end}
+use Rattle.term_layout.proofs.Rows.{Cleared, clear-more, clear-end}
 use Rattle.entry.proofs.numbers.clear.Statement.{statement}
 use Rattle.entry.proofs.numbers.clear.Tie as tie
 

@@ -1,5 +1,5 @@
 use mathlib.Core.Path.{sym, _∙_}
-use Rattle.index.proofs.Choice.{told-true}
+use Rattle.term_layout.proofs.Choice.{told-true}
 use Rattle.entry.specs.Bytes.{changes}
 use Rattle.entry.proofs.Coding.{left-written, left-alone}
 use borrow.Author.Needs.{needs}

@@ -1,7 +1,7 @@
 -- `index::container::is_container` meets its contract. Assumes nothing.
 use mathlib.Core.Path.{_∙_}
 use borrow.Author.Needs.{needs}
-use Rattle.index.specs.Values.{contents}
+use Rattle.term_layout.specs.Values.{contents}
 use Rattle.index.proofs.ContainerTerms.{container-located}
 use Rattle.index.proofs.container.is_container.Statement.{statement}
 use Rattle.index.proofs.container.is_container.Tie as tie

@@ -2,7 +2,7 @@
 use mathlib.Core.Path.{sym, _∙_, ap}
 use borrow.Author.Needs.{needs}
 use Rattle.common.specs.Containers.{is-number}
-use Rattle.index.proofs.Rows.{rest-part}
+use Rattle.term_layout.proofs.Rows.{rest-part}
 use Rattle.index.proofs.ContainerTerms.{container-kind, container-other, container-number, container-long}
 use Rattle.index.proofs.container.is_container_term.Statement.{statement}
 use Rattle.index.proofs.container.is_container_term.Tie as tie

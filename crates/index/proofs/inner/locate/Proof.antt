@@ -2,8 +2,8 @@
 use Prim.Native.Nat.{_+_, _*_}
 use native.Mathlib.Omega.{arith}
 use borrow.Author.Needs.{needs}
-use Rattle.index.specs.Values.{contents}
-use Rattle.index.proofs.Reading.{entry-fits}
+use Rattle.term_layout.specs.Values.{contents}
+use Rattle.term_entries.proofs.Reading.{entry-fits}
 use Rattle.index.proofs.Looking.{look-12, look-known}
 use Rattle.index.proofs.inner.locate.Statement.{statement}
 use Rattle.index.proofs.inner.locate.Tie as tie

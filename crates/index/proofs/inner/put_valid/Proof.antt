@@ -4,10 +4,11 @@ use borrow.Author.Needs.{needs}
 use lib.Dec.{le→leb}
 use lib.ListN.{length}
 use Rattle.index.specs.declared.values.PutNext.{PutNext}
-use Rattle.index.specs.declared.values.Digest.{Digest}
-use Rattle.index.specs.Terms.{term}
-use Rattle.index.specs.Values.{contents, put-left}
-use Rattle.index.proofs.Putting.{kind-low, kind-high, kind-in, too-long, put-10, put-11, put-held, put-full-table, put-full-arena, put-new, appendable}
+use Rattle.term_layout.specs.declared.values.Digest.{Digest}
+use Rattle.term_layout.specs.Terms.{term}
+use Rattle.term_layout.specs.Values.{contents}
+use Rattle.index.specs.Values.{put-left}
+use Rattle.term_entries.proofs.Putting.{kind-low, kind-high, kind-in, too-long, put-10, put-11, put-held, put-full-table, put-full-arena, put-new, appendable}
 use Rattle.index.proofs.inner.put_valid.Statement.{statement}
 use Rattle.index.proofs.inner.put_valid.Tie as tie
 

@@ -1,0 +1,32 @@
+-- `term_entries::initial::enter` meets its contract. Assumes nothing.
+use mathlib.Core.Path.{ap}
+use native.Mathlib.Omega.{arith}
+use borrow.Author.Needs.{needs}
+use Rattle.term_layout.specs.declared.values.Digest.{Digest}
+use Rattle.term_entries.proofs.Starting.{next-appendable, next-short, next-done}
+use Rattle.term_entries.proofs.initial.enter.Statement.{statement}
+use Rattle.term_entries.proofs.initial.enter.Tie as tie
+use Rattle.term_entries.proofs.initial.enter.Reads as reads
+use Rattle.term_entries.proofs.initial.enter.Lts as lts
+use Rattle.term_entries.proofs.append.append.Reads as append-reads
+use Rattle.term_layout.proofs.hash.digest.Reads as digest-reads
+
+digest-requires : tie.Need-digest-requires
+digest-requires c κs = omega (arith, next-short (c .before .before .before .pre))
+
+append-requires : tie.Need-append-requires
+append-requires c κs =
+    next-appendable (c .before .before .before .before .before .before .pre) (ap (λ (x : Digest). x .chain) (c .before .before .digest .ensures))
+
+same-length : tie.Need-same-length
+same-length c = search needs
+
+same-length-2 : tie.Need-same-length-2
+same-length-2 c = search needs
+
+returns : tie.Need-returns
+returns c =
+    next-done (c .before .before .before .before .before .before .before .before .before .before .before .pre) (c .before .before .before .before .append .kept .0) (c .before .before .before .before .append .kept .1 .0) (c .before .before .before .before .append .ensures)
+
+pub enter-spec : {M : Type 1} → statement M
+enter-spec = tie.close (tie.spec digest-requires append-requires same-length same-length-2 returns)

@@ -1,0 +1,11 @@
+pub mod Choice
+pub mod Equality
+pub mod Rows
+pub mod Digests
+pub mod Decoding
+pub mod Holding
+pub mod Reachable
+pub mod Vocabulary
+pub mod Chains
+pub mod Distinct
+pub mod Walking

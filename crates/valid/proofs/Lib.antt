@@ -1,0 +1,6 @@
+pub mod Hashing
+pub mod Naming
+pub mod Scanning
+pub mod Refusing
+pub mod Checking
+pub mod Validity
