@@ -12,14 +12,14 @@ use Rattle.common.specs.Triples.{if}
 use Rattle.common.specs.Table.{all}
 use Rattle.common.specs.Run.{Outcome, store-full, findings-full, accepted}
 use Rattle.common.proofs.Lists.{and←}
-use Rattle.index.specs.Terms.{Term, term, start-terms, run-terms}
-use Rattle.index.specs.Layout.{Dict, size, layout}
-use Rattle.index.specs.Dictionary.{place-of, kind-known, short, roomy, Put-answer, put-answer, put-at, reckon-put, Brought, full, brought, if-zero, bring, sized, start-fits, start-refusal}
-use Rattle.index.specs.Calls.{Start-result, start-gives, Put-result, put-gives}
-use Rattle.index.proofs.Decoding.{size-append}
-use Rattle.index.proofs.Holding.{Added, put-cases, Holds, holds-start, holds-put}
-use Rattle.index.proofs.Reachable.{start-accepts, on-layout}
-use Rattle.index.proofs.Running.{put-on}
+use Rattle.term_layout.specs.Terms.{Term, term, start-terms, run-terms}
+use Rattle.term_layout.specs.Layout.{Dict, size, layout}
+use Rattle.term_layout.specs.Dictionary.{place-of, kind-known, short, roomy, Put-answer, put-answer, put-at, reckon-put, Brought, full, brought, if-zero, bring, sized, start-fits, start-refusal}
+use Rattle.term_layout.specs.Calls.{Start-result, start-gives, Put-result, put-gives}
+use Rattle.term_layout.proofs.Decoding.{size-append}
+use Rattle.term_layout.proofs.Holding.{Added, put-cases, Holds, holds-start, holds-put}
+use Rattle.term_layout.proofs.Reachable.{start-accepts, on-layout}
+use Rattle.run_terms.proofs.Running.{put-on}
 use Rattle.reasoner.specs.Run.{Lent, lent, Run-answer, Run-result, unchanged, shown, closed, stop, first-met, run-stops, run-brought, run-passed, reckon-run, run-laid, run-gives}
 use Rattle.closer_input.specs.Decimal.{digits}
 use Rattle.closer_input.specs.Input.{on, id, three-ids, fields, id-line, id-lines, count-line, lines, read-lines, reading, read, bad-line, input, parse}
