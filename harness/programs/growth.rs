@@ -12,7 +12,7 @@ use model::{FINDINGS_LIMIT, STORE_LIMIT};
 use std::time::{Duration, Instant};
 use tablestork::Buffers;
 
-const RUNS: usize = 15;
+const RUNS: usize = 41;
 const BOUND: f64 = 2.3;
 
 const DEEP: u32 = 50;
