@@ -6,26 +6,12 @@
 use std::hint::black_box;
 
 extern "C" {
-    fn index_bench_is_valid(table: *const u32, table_len: usize, arena: *const u8, arena_len: usize, terms: u32, used: u32) -> u32;
+    fn index_bench_is_valid(table: *const u32, table_len: usize, arena: *const u8, arena_len: usize, terms: u32, used: u32) -> bool;
 }
 
-#[repr(C)]
-struct Timespec {
-    seconds: i64,
-    nanoseconds: i64,
-}
-
-extern "C" {
-    fn clock_gettime(clock: i32, time: *mut Timespec) -> i32;
-}
-
-// The milliseconds that this thread has run.
-fn clock() -> f64 {
-    const CLOCK_THREAD_CPUTIME_ID: i32 = 3;
-    let mut t = Timespec { seconds: 0, nanoseconds: 0 };
-    unsafe { clock_gettime(CLOCK_THREAD_CPUTIME_ID, &mut t) };
-    t.seconds as f64 * 1e3 + t.nanoseconds as f64 / 1e6
-}
+#[path = "../clock.rs"]
+mod clock;
+use clock::clock;
 
 const ENTRIES: usize = 65_535;
 const ARENA: usize = 1_048_576;
@@ -77,7 +63,7 @@ fn layout(terms: &[Vec<u8>]) -> (Vec<u32>, Vec<u8>) {
 }
 
 fn is_valid(table: &[u32], arena: &[u8], used: u32) -> bool {
-    unsafe { index_bench_is_valid(table.as_ptr(), table.len(), arena.as_ptr(), arena.len(), ENTRIES as u32, used) == 1 }
+    unsafe { index_bench_is_valid(table.as_ptr(), table.len(), arena.as_ptr(), arena.len(), ENTRIES as u32, used) }
 }
 
 // Not inlined: a call, as is_valid is.
