@@ -1,4 +1,6 @@
-// Buffers of numbers, compared: for the programs that hold a run to values written beforehand.
+// Numbers read and compared, for the programs that hold calls to values written beforehand.
+pub mod reader; // reader.rt: decimal numbers of a text
+
 ghost use mathlib.Core.Path.{_≡_};
 ghost use lib.ListN.{length, replicate};
 ghost use Rattle.term_layout.specs.Dictionary.{same-row};

@@ -1,111 +1,126 @@
-// Replays the answers of the original that crates/replay/stdin records, and compares. Then it changes a digit of each model's recorded
-// answer, and the comparison has to notice: so that a comparison which says nothing shows too.
-mod model; // model.rt: one recorded model
-mod reader; // reader.rt: decimal numbers
+// Plays a text of calls with what each must give: crates/replay/stdin. README.md has its format, and how it was made.
+mod calls; // calls.rt: the four calls on a memory
+mod lines; // lines.rt: a line of the text
+mod memory; // memory.rt: numbers by cell
 mod report; // report.rt: what is printed
-mod runs; // runs.rt: a model's three runs
-mod terms; // terms.rt: a model's terms
-mod values; // values.rt: what the parts hand each other
 
-use model::replay;
-use reader::read_number;
+use buffers::reader::Read;
+use buffers::reader::read_number;
+use lines::Turn;
+use lines::play_line;
+use memory::CELLS;
+use memory::SAVED;
 use report::Tally;
-use report::Turn;
+use report::end_list;
+use report::no_calls;
 use report::print_difference;
-use report::print_tally;
-use report::print_unnoticed;
-use values::agrees;
-use values::is_read;
+use report::print_unreadable;
 
-const TEXT: usize = 180000;
+// Room for the text.
+const TEXT: usize = 520000;
 
-// Another digit, and not 0, which could lead a number.
-fn other_digit(b: u8) -> u8 {
-    if b < 49 {
-        return 49;
-    }
-    if 56 < b { 49 } else { b + 1 }
+// The line that ends a list.
+const END: u32 = 7;
+
+// How far the text was played: the tally of the list, the place of the next line, whether all could be read.
+struct Progress {
+    tally: Tally,
+    at: usize,
+    ok: bool,
 }
 
-// A place from `from` to before `end`, another for each model: of a digit where the text is a recording.
-fn place_to_change(text: &[u8], from: usize, end: usize, model: u32) -> usize {
-    if text.len() < end {
-        return from;
+// The end of a list, whose tally is printed.
+fn ended(text: &[u8], at: usize, tally: Tally) -> Progress {
+    let end = end_list(text, at, tally);
+    Progress {
+        tally: no_calls(),
+        at: end.at,
+        ok: end.ok,
     }
-    if end <= from {
-        return from;
-    }
-    let place = from + (model as usize * 7) % (end - from);
-    if place == from {
-        return place;
-    }
-    if text[place] < 48 { place - 1 } else { place }
 }
 
-// Whether a change of the recorded answer is noticed. The text is left as it was.
-fn is_change_noticed(text: &mut [u8], at: usize, place: usize) -> bool {
-    if text.len() <= place {
-        return false;
+// A line that was played.
+fn played(turn: Turn, tally: Tally, line: usize) -> Progress {
+    if turn.differences != 0 {
+        print_difference(line);
     }
-    let digit = text[place];
-    text[place] = other_digit(digit);
-    let outcome = replay(&*text, at);
-    text[place] = digit;
-    let difference = outcome.difference;
-    !agrees(difference)
+    Progress {
+        tally: tally.with(turn),
+        at: turn.at,
+        ok: turn.ok,
+    }
 }
 
-// One model: what it showed, reported, with its change tried where it agrees.
-fn replay_one(text: &mut [u8], at: usize, model: u32) -> Turn {
-    let outcome = replay(&*text, at);
-    let difference = outcome.difference;
-    if !agrees(difference) {
-        print_difference(model, difference);
-        return Turn {
-            next: outcome.next,
-            readable: is_read(difference),
-            differences: 1,
-            unnoticed: 0,
+// Plays one line.
+fn step(
+    text: &[u8],
+    before: Progress,
+    line: usize,
+    memory: &mut [u32],
+    expected: &mut [u32],
+    saved: &mut [u32],
+) -> Progress {
+    let tally = before.tally;
+    let first = read_number(text, before.at);
+    if !first.ok {
+        return Progress {
+            tally,
+            at: before.at,
+            ok: false,
         };
     }
-    let place = place_to_change(&*text, outcome.answer, outcome.next, model);
-    let noticed = is_change_noticed(text, at, place);
-    if !noticed {
-        print_unnoticed(model);
+    if first.value == END {
+        return ended(text, first.at, tally);
     }
-    Turn {
-        next: outcome.next,
-        readable: true,
-        differences: 0,
-        unnoticed: !noticed as u32,
+    let turn = play_line(text, first, memory, expected, saved);
+    played(turn, tally, line)
+}
+
+// Plays the text: it has at most as many lines as bytes.
+fn play(text: &[u8], memory: &mut [u32], expected: &mut [u32], saved: &mut [u32]) {
+    let mut progress = Progress {
+        tally: no_calls(),
+        at: 0,
+        ok: true,
+    };
+    let mut line = 0;
+    while line < text.len() {
+        if text.len() <= progress.at {
+            return;
+        }
+        line += 1;
+        progress = step(
+            text,
+            progress,
+            line,
+            &mut *memory,
+            &mut *expected,
+            &mut *saved,
+        );
+        if !progress.ok {
+            print_unreadable(line);
+            return;
+        }
     }
 }
 
-// All models of the text, up to the first that cannot be read.
-fn replay_all(text: &mut [u8]) -> Tally {
-    let first = read_number(&*text, 0);
-    let total = first.value;
-    let mut tally = Tally {
-        models: 0,
-        differences: 0,
-        unnoticed: 0,
-        at: first.at,
-    };
-    let mut model: u32 = 0;
-    while model < total {
-        model += 1;
-        let turn = replay_one(&mut *text, tally.at, model);
-        tally = tally.with(turn);
-        if !turn.readable {
-            return tally;
-        }
+// Plays the text on memories that hold zeros.
+fn play_text(text: &[u8]) {
+    let mut memory = [0u32; CELLS];
+    let mut expected = [0u32; CELLS];
+    let mut saved = [0u32; SAVED];
+    play(text, &mut memory, &mut expected, &mut saved);
+}
+
+// Plays what standard input has, as far as there is room for it.
+fn play_input(room: &mut [u8]) {
+    let n = io::read_full(0, &mut *room);
+    if n <= room.len() {
+        play_text(&room[..n]);
     }
-    tally
 }
 
 fn main() {
-    let mut text = [0u8; TEXT];
-    let n = io::read_full(0, &mut text);
-    let tally = replay_all(&mut text[..n]);
-    print_tally(tally, tally.at == n);
+    let mut room = [0u8; TEXT];
+    play_input(&mut room);
 }

@@ -1,74 +1,80 @@
 // What the program prints.
-use crate::values::Difference;
+use crate::lines::Turn;
+use buffers::reader::Cursor;
+use buffers::reader::read_bytes;
+use buffers::reader::read_number;
 
-// What one model showed: the place of the next, whether it could be read, differences, changes that went unnoticed.
-pub struct Turn {
-    pub next: usize,
-    pub readable: bool,
+// The longest name of a list.
+const NAME: usize = 60;
+
+// What a list has shown so far.
+pub struct Tally {
+    pub calls: u32,
     pub differences: u32,
-    pub unnoticed: u32,
 }
 
-// The same of all models so far.
-pub struct Tally {
-    pub models: u32,
-    pub differences: u32,
-    pub unnoticed: u32,
-    pub at: usize,
+pub fn no_calls() -> Tally {
+    Tally {
+        calls: 0,
+        differences: 0,
+    }
 }
 
 impl Tally {
     pub fn with(self, turn: Turn) -> Tally {
         Tally {
-            models: std::num::wrapping_add_u32(self.models, 1),
+            calls: std::num::wrapping_add_u32(self.calls, turn.calls),
             differences: std::num::wrapping_add_u32(self.differences, turn.differences),
-            unnoticed: std::num::wrapping_add_u32(self.unnoticed, turn.unnoticed),
-            at: turn.next,
         }
     }
 }
 
-fn write_name(d: Difference) {
-    match d {
-        Difference::Nothing => io::write_all(1, b"nothing"),
-        Difference::Malformed => io::write_all(1, b"malformed, or a term without its id"),
-        Difference::Refusal => io::write_all(1, b"refusal"),
-        Difference::Count => io::write_all(1, b"triple count"),
-        Difference::Store => io::write_all(1, b"store"),
-        Difference::Findings => io::write_all(1, b"findings"),
-        Difference::Counts => io::write_all(1, b"five counts"),
-        Difference::Work => io::write_all(1, b"list work buffer"),
-        Difference::FullStore => io::write_all(1, b"store of a triple less"),
-        Difference::FullFindings => io::write_all(1, b"findings of a record less"),
-    }
-    ;
-}
-
-fn write_model(model: u32) {
-    io::write_all(1, b"model ");
-    io::print_decimal(1, model as u64);
-}
-
-pub fn print_difference(model: u32, d: Difference) {
-    write_model(model);
-    io::write_all(1, b" differs: ");
-    write_name(d);
+fn print_line(what: &[u8], line: usize) {
+    io::write_all(1, what);
+    io::print_decimal(1, line as u64);
     io::write_all(1, b"\n");
 }
 
-pub fn print_unnoticed(model: u32) {
-    write_model(model);
-    io::write_all(1, b": a change of the recorded answer was not noticed\n");
+pub fn print_difference(line: usize) {
+    print_line(b"not as said after line ", line);
 }
 
-pub fn print_tally(t: Tally, whole: bool) {
-    io::print_decimal(1, t.models as u64);
-    io::write_all(1, b" models compared, differences ");
-    io::print_decimal(1, t.differences as u64);
-    io::write_all(1, b"; a recorded digit changed in each, unnoticed ");
-    io::print_decimal(1, t.unnoticed as u64);
+pub fn print_unreadable(line: usize) {
+    print_line(b"cannot read line ", line);
+}
+
+fn print_list(name: &[u8], tally: Tally) {
+    io::write_all(1, name);
+    io::write_all(1, b": calls ");
+    io::print_decimal(1, tally.calls as u64);
+    io::write_all(1, b", differences ");
+    io::print_decimal(1, tally.differences as u64);
     io::write_all(1, b"\n");
-    if !whole {
-        io::write_all(1, b"the text does not end after its last model\n");
+}
+
+fn end_named(text: &[u8], from: Cursor, name: &mut [u8], tally: Tally) -> Cursor {
+    let end = read_bytes(text, from, &mut *name);
+    if end.ok {
+        print_list(&*name, tally);
     }
+    end
+}
+
+fn end_in(text: &[u8], at: usize, room: &mut [u8], tally: Tally) -> Cursor {
+    let length = read_number(text, at);
+    let n = length.value as usize;
+    if room.len() < n {
+        return Cursor { at, ok: false };
+    }
+    let from = Cursor {
+        at: length.at,
+        ok: length.ok,
+    };
+    end_named(text, from, &mut room[..n], tally)
+}
+
+// The line that ends a list: its name, and what it showed.
+pub fn end_list(text: &[u8], at: usize, tally: Tally) -> Cursor {
+    let mut room = [0u8; NAME];
+    end_in(text, at, &mut room, tally)
 }

@@ -1,289 +1,39 @@
-//! record FOLDER: the original's answers to a fixed list of models, as FOLDER/answers.txt, and what the cases after the tables of
-//! OWL 2 Profiles show, as FOLDER/cases.md. crates/replay/README.md has the format.
-//!
-//! Every answer is the original's; the model of document 01 has to agree with it, and tells which rules a model needs.
+//! record FOLDER: writes calls with what each must give, as FOLDER/stdin; what program replay has to print of them, as FOLDER/stdout;
+//! and what the cases after the tables of OWL 2 Profiles show, as FOLDER/cases.md. crates/replay/README.md has the format.
 
+mod batches;
+mod calls;
+mod damage;
+mod index;
+mod lists;
+mod memory;
+mod models;
+mod recorded;
 mod tables;
+mod text;
 
-use generate::{names, small::small, word, Model, Random, FIRST};
-use model::closure::{check, close, in_domain};
-use model::dictionary::{is_container_property, run_terms, NAMED_NODE};
-use model::{Finding, Triple};
-use std::fmt::Write;
-use tables::{Case, Conclusion, CASES, NEAR};
-
-/// What a reader of the recording may rely on.
-const MOST_TERMS: usize = 16;
-const MOST_LOAD: usize = 20;
-const MOST_CLOSED: usize = 200;
-const MOST_FOUND: usize = 60;
-
-/// Random models, and of each thing to come up at least so many.
-const RANDOM: usize = 340;
-const QUOTA: usize = 12;
-
-const RDF: &str = "http://www.w3.org/1999/02/22-rdf-syntax-ns#";
-
-struct Recorded {
-    plain: usize,
-    model: Model,
-    closure: Vec<Triple>,
-    answer: Vec<Triple>,
-    findings: Vec<Finding>,
-}
+use text::Text;
 
 fn main() {
     let Some(folder) = std::env::args().nth(1) else {
         eprintln!("record FOLDER");
         std::process::exit(2);
     };
-    let (cases, listing) = table_cases();
-    let random = random_models();
-    let all: Vec<&Recorded> = cases.iter().chain(&random).collect();
-    let mut text = format!("{}\n", all.len());
-    for recorded in &all {
-        write_recorded(recorded, &mut text);
-    }
+    let (cases, listing) = recorded::table_cases();
+    let random = recorded::random_models();
+    let mut text = Text::new();
+    index::lists(&mut text);
+    damage::lists(&mut text);
+    lists::lists(&mut text);
+    batches::lists(&mut text);
+    let before = models::prepare(&mut text);
+    models::models(&mut text, "models after the tables of OWL 2 Profiles", &cases, &before);
+    models::models(&mut text, "random models", &random, &before);
+    let (lines, printed) = text.done();
+    println!("{} bytes", lines.len());
+    print!("{printed}");
     std::fs::create_dir_all(&folder).expect("a folder");
-    std::fs::write(format!("{folder}/answers.txt"), &text).expect("answers.txt");
-    std::fs::write(format!("{folder}/cases.md"), listing).expect("cases.md");
-    println!("{} cases and {} random models, {} bytes", cases.len(), random.len(), text.len());
-    let most = |f: fn(&Recorded) -> usize| all.iter().map(|r| f(r)).max().unwrap_or(0);
-    println!(
-        "largest: {} terms, {} triples of a load, closure {}, {} findings",
-        most(|r| r.model.terms.len()),
-        most(|r| r.model.load.len()),
-        most(|r| r.closure.len()),
-        most(|r| r.findings.len())
-    );
-}
-
-/// The original's answer; the model's has to be the same.
-fn record(model: Model) -> Recorded {
-    let closed = original::close(&model.terms, &model.load);
-    let closure = closed.original.closure();
-    let findings: Vec<Finding> = closed.original.findings().into_iter().collect();
-    let ours = close(&model.start(), model::STORE_LIMIT, 0).expect("a small closure");
-    assert_eq!(closure, ours, "{}", model.text());
-    assert_eq!(findings, check(&ours).into_iter().collect::<Vec<_>>(), "{}", model.text());
-    let plain = model.terms.iter().zip(names(model.terms.len())).take_while(|(a, b)| *a == b).count();
-    Recorded { plain, model, closure, answer: closed.triples, findings }
-}
-
-fn write_recorded(r: &Recorded, text: &mut String) {
-    let (load, further) = (&r.model.load, &r.model.terms[r.plain..]);
-    assert!(r.model.terms.len() <= MOST_TERMS && load.len() <= MOST_LOAD);
-    assert!(r.closure.len() <= MOST_CLOSED && r.findings.len() <= MOST_FOUND);
-    let sizes = [r.plain, further.len(), load.len(), r.closure.len(), r.answer.len(), r.findings.len()];
-    line(text, &sizes.map(|n| n as u32));
-    for (kind, bytes) in further {
-        let mut numbers = vec![*kind, bytes.len() as u32];
-        numbers.extend(bytes.iter().map(|b| u32::from(*b)));
-        line(text, &numbers);
+    for (name, contents) in [("stdin", lines), ("stdout", printed), ("cases.md", listing)] {
+        std::fs::write(format!("{folder}/{name}"), contents).expect("a file");
     }
-    for triple in load.iter().chain(&r.answer) {
-        line(text, triple);
-    }
-    for finding in &r.findings {
-        line(text, finding);
-    }
-}
-
-fn line(text: &mut String, numbers: &[u32]) {
-    let words: Vec<String> = numbers.iter().map(u32::to_string).collect();
-    writeln!(text, "{}", words.join(" ")).expect("a string");
-}
-
-/// The terms of a case: its variables urn:t1 and so on, then those of the rdf namespace, then a run's.
-struct Terms {
-    variables: Vec<String>,
-    further: Vec<String>,
-}
-
-impl Terms {
-    fn of(case: &Case) -> Terms {
-        let mut terms = Terms { variables: Vec::new(), further: Vec::new() };
-        let conclusion = match case.conclusion {
-            Conclusion::Triple(t) | Conclusion::Finding(t) => t,
-            Conclusion::Zero => "",
-        };
-        for w in case.premises.split([',', ' ']).chain(conclusion.split(' ')) {
-            let list = if w.starts_with('_') { &mut terms.further } else { &mut terms.variables };
-            let is_term = w.starts_with('_') || (w.len() == 1 && !w.starts_with(|c: char| c.is_ascii_digit()));
-            if is_term && !list.iter().any(|v| v == w) {
-                list.push(w.to_string());
-            }
-        }
-        terms
-    }
-
-    fn model(&self, premises: &[&str]) -> Model {
-        let mut terms = names(self.variables.len());
-        terms.extend(self.further.iter().map(|local| (NAMED_NODE, format!("{RDF}{local}").into_bytes())));
-        Model { terms, load: premises.iter().map(|p| self.triple(p)).collect() }
-    }
-
-    fn id(&self, w: &str) -> u32 {
-        let at = |list: &[String]| list.iter().position(|v| v == w).map(|k| k as u32);
-        let known = (self.variables.len() + self.further.len()) as u32;
-        let of_a_run = run_terms().iter().position(|(_, bytes)| bytes.ends_with(format!("#{w}").as_bytes())).map(|k| k as u32);
-        at(&self.variables)
-            .map(|k| FIRST + k)
-            .or(at(&self.further).map(|k| FIRST + self.variables.len() as u32 + k))
-            .or(of_a_run.map(|k| FIRST + known + k))
-            .unwrap_or_else(|| word(w))
-    }
-
-    fn triple(&self, words: &str) -> Triple {
-        let ids: Vec<u32> = words.split(' ').map(|w| self.id(w)).collect();
-        [ids[0], ids[1], ids[2]]
-    }
-
-    /// Does the conclusion hold in what was recorded?
-    fn holds(&self, case: &Case, r: &Recorded) -> bool {
-        match case.conclusion {
-            Conclusion::Triple(t) => r.answer.contains(&self.triple(t)),
-            Conclusion::Zero => r.closure.contains(&[0; 3]),
-            Conclusion::Finding(f) => {
-                let mut words = f.split(' ');
-                let mut record = [words.next().and_then(|k| k.parse().ok()).expect("a check"), 0, 0, 0, 0];
-                for (place, w) in record[1..].iter_mut().zip(words) {
-                    *place = self.id(w);
-                }
-                r.findings.contains(&record)
-            }
-        }
-    }
-}
-
-const HEAD: &str = "# Cases after the tables of OWL 2 Profiles, section 4.3
-
-The first models of the recording, in this order; made by harness/record, which checks each line against the original. 'Rule' is document
-01's number, 0 for a check or a part of the start. A letter is a term of its own, urn:t1 and so on in the order in which they first appear.
-'Alone': without this rule the other rules do not give the conclusion. What eq-trans gives eq-rep-o gives too, and what cax-eqc1 and
-cax-eqc2 give scm-eqc1 and cax-sco do, so no model shows those alone.
-
-| Model | Name | Rule | Load | Conclusion | Holds | Alone |
-|---|---|---|---|---|---|---|
-";
-
-/// Each rule with all premises, and once without each of them; then the near misses.
-fn table_cases() -> (Vec<Recorded>, String) {
-    let (mut all, mut listing) = (Vec::new(), HEAD.to_string());
-    for case in CASES {
-        let terms = Terms::of(case);
-        let premises: Vec<&str> = case.premises.split(", ").filter(|p| !p.is_empty()).collect();
-        let whole = record(terms.model(&premises));
-        assert!(terms.holds(case, &whole), "{}: the conclusion is not there", case.name);
-        let alone = case.rule > 0 && !holds_without(case, &terms, &whole.model);
-        assert!(alone || [0, 8, 17].contains(&case.rule), "{}: another rule gives it too", case.name);
-        list(&mut listing, all.len(), case, &premises, true, alone);
-        all.push(whole);
-        let mut missing = 0;
-        for k in 0..premises.len() {
-            let mut fewer = premises.clone();
-            fewer.remove(k);
-            let recorded = record(terms.model(&fewer));
-            let holds = terms.holds(case, &recorded);
-            missing += usize::from(!holds);
-            list(&mut listing, all.len(), case, &fewer, holds, false);
-            all.push(recorded);
-        }
-        assert!(missing > 0 || premises.is_empty(), "{}: no premise is needed", case.name);
-    }
-    for case in NEAR {
-        let terms = Terms::of(case);
-        let premises: Vec<&str> = case.premises.split(", ").collect();
-        let recorded = record(terms.model(&premises));
-        assert!(!terms.holds(case, &recorded), "{}: the conclusion is there", case.name);
-        list(&mut listing, all.len(), case, &premises, false, false);
-        all.push(recorded);
-    }
-    (all, listing)
-}
-
-/// Does the conclusion hold in the closure under all rules but the case's own?
-fn holds_without(case: &Case, terms: &Terms, model: &Model) -> bool {
-    let closure = close(&model.start(), model::STORE_LIMIT, 1 << case.rule).expect("a small closure");
-    let answer = closure.iter().copied().filter(|t| !t.contains(&0)).collect();
-    let findings = check(&closure).into_iter().collect();
-    terms.holds(case, &Recorded { plain: 0, model: model.clone(), closure, answer, findings })
-}
-
-fn list(text: &mut String, at: usize, case: &Case, premises: &[&str], holds: bool, alone: bool) {
-    let conclusion = match case.conclusion {
-        Conclusion::Triple(t) => t.to_string(),
-        Conclusion::Finding(f) => format!("finding {f}"),
-        Conclusion::Zero => "0 0 0 in the closure".to_string(),
-    };
-    let yes = |b: bool| if b { "yes" } else { "no" };
-    let load = if premises.is_empty() { "empty".to_string() } else { premises.join(", ") };
-    let alone = if alone { "yes" } else { "" };
-    writeln!(text, "| {} | {} | {} | {load} | {conclusion} | {} | {alone} |", at + 1, case.name, case.rule, yes(holds))
-        .expect("a string");
-}
-
-/// What is counted: the rules whose absence shows in the answer, zero triples that carry a real one (0), each check, container
-/// properties, and lists with a shared tail.
-const THINGS: usize = 36;
-
-fn things(model: &Model, closure: &[Triple]) -> Vec<usize> {
-    let answer = |closure: &[Triple]| closure.iter().copied().filter(|t| !t.contains(&0)).collect::<Vec<_>>();
-    let whole = answer(closure);
-    let shows = |without: u32| answer(&close(&model.start(), model::STORE_LIMIT, without).expect("fewer triples")) != whole;
-    let mut things: Vec<usize> = (0..29).filter(|k| shows(1 << k)).collect();
-    things.extend(check(closure).iter().map(|f| 28 + f[0] as usize));
-    let is_container = |p: u32| p >= FIRST && is_container_property(&model.terms[(p - FIRST) as usize]);
-    if model.load.iter().any(|t| is_container(t[1])) {
-        things.push(34);
-    }
-    let tail = |t: &&Triple| t[1] == word("rest") && t[2] != word("nil");
-    let shared = |t: &Triple| model.load.iter().filter(tail).any(|u| u[2] == t[2] && u[0] != t[0]);
-    if model.load.iter().filter(tail).any(shared) && shows(0b111 << 21) {
-        things.push(35);
-    }
-    things
-}
-
-/// Random models inside the domain: first those that bring up something still wanted, then any.
-fn random_models() -> Vec<Recorded> {
-    let (mut counts, mut all) = ([0; THINGS], Vec::<Recorded>::new());
-    // Rules 8 and 17 never show (see cases.md).
-    let wanted = |counts: &[usize; THINGS], k: usize| counts[k] < QUOTA && k != 8 && k != 17;
-    for k in 0.. {
-        let still_wanted = (0..THINGS).any(|k| wanted(&counts, k));
-        if all.len() >= RANDOM && !still_wanted {
-            break;
-        }
-        let model = plain_terms_first(small(&mut Random::item(3, k)));
-        let Some(closure) = close(&model.start(), MOST_CLOSED, 0) else { continue };
-        let fits = model.load.len() <= MOST_LOAD && check(&closure).len() <= MOST_FOUND;
-        if !fits || !in_domain(&model.load, &closure) {
-            continue;
-        }
-        let mut brought = things(&model, &closure);
-        brought.dedup();
-        if !still_wanted || brought.iter().any(|k| wanted(&counts, *k)) {
-            brought.iter().for_each(|k| counts[*k] += 1);
-            all.push(record(model));
-        }
-    }
-    println!("random models by what they bring up: {counts:?}");
-    all
-}
-
-/// Named nodes urn:t1 to urn:tn first, then the other terms.
-fn plain_terms_first(model: Model) -> Model {
-    let all_names = names(model.terms.len());
-    let is_plain = |k: &usize| model.terms[*k] == all_names[*k];
-    let order: Vec<usize> =
-        (0..model.terms.len()).filter(is_plain).chain((0..model.terms.len()).filter(|k| !is_plain(k))).collect();
-    let plain = order.iter().filter(|k| is_plain(k)).count();
-    let mut terms = names(plain);
-    terms.extend(order[plain..].iter().map(|k| model.terms[*k].clone()));
-    let moved = |id: u32| match id.checked_sub(FIRST) {
-        Some(k) => FIRST + order.iter().position(|o| *o == k as usize).expect("a term of the model") as u32,
-        None => id,
-    };
-    Model { terms, load: model.load.iter().map(|t| t.map(moved)).collect() }
 }

@@ -1,0 +1,117 @@
+// The text: decimal numbers, each ended by a space or a line feed.
+use closer_input::decimal::Field;
+use closer_input::decimal::number;
+ghost use Prim.Native.Nat.{_≤_};
+ghost use lib.ListN.{length};
+
+// A place in the text, and whether all before it could be read.
+pub struct Cursor {
+    pub at: usize,
+    pub ok: bool,
+}
+
+// A number, and the place after the byte that ends it.
+pub struct Read {
+    pub value: u32,
+    pub at: usize,
+    pub ok: bool,
+}
+
+fn ends_number(b: u8) -> bool {
+    b == 32 || b == 10
+}
+
+// Where the number that begins at a place ends.
+fn end_of_number(text: &[u8], at: usize) -> usize
+    requires { ⌜ at ≤ length (now text) ⌝ }
+    ensures { λ r. ⌜ at ≤ r ⌝ }
+    ensures { λ r. ⌜ r ≤ length (now (text .entry)) ⌝ }
+{
+    let mut end = at;
+    while end < text.len() {
+        if ends_number(text[end]) {
+            return end;
+        }
+        end += 1;
+    }
+    end
+}
+
+// The place after the byte that ends a number, if the text goes on.
+fn after(text: &[u8], end: usize) -> usize {
+    if end < text.len() { end + 1 } else { end }
+}
+
+pub fn read_number(text: &[u8], at: usize) -> Read {
+    if text.len() < at {
+        return Read {
+            value: 0,
+            at,
+            ok: false,
+        };
+    }
+    let end = end_of_number(text, at);
+    let field = number(&text[at..end], 4294967295);
+    match field {
+        Field::Bad => Read {
+            value: 0,
+            at,
+            ok: false,
+        },
+        Field::Number(value) => Read {
+            value,
+            at: after(text, end),
+            ok: true,
+        },
+    }
+}
+
+// Fills the row with the numbers from the cursor on.
+pub fn read_row(text: &[u8], from: Cursor, row: &mut [u32]) -> Cursor {
+    let mut at = from.at;
+    let mut ok = from.ok;
+    let mut i = 0;
+    while i < row.len() {
+        let read = read_number(text, at);
+        row[i] = read.value;
+        at = read.at;
+        ok = ok && read.ok;
+        i += 1;
+    }
+    Cursor { at, ok }
+}
+
+// A byte, and whether the number is one.
+struct Byte {
+    value: u8,
+    ok: bool,
+}
+
+fn byte_of(n: u32) -> Byte {
+    if 255 < n {
+        return Byte {
+            value: 0,
+            ok: false,
+        };
+    }
+    Byte {
+        value: n as u8,
+        ok: true,
+    }
+}
+
+// Fills the row with the bytes whose numbers stand from the cursor on.
+pub fn read_bytes(text: &[u8], from: Cursor, row: &mut [u8]) -> Cursor {
+    let mut at = from.at;
+    let mut ok = from.ok;
+    let mut i = 0;
+    while i < row.len() {
+        let read = read_number(text, at);
+        let byte = byte_of(read.value);
+        row[i] = byte.value;
+        at = read.at;
+        ok = ok && read.ok && byte.ok;
+        i += 1;
+    }
+    Cursor { at, ok }
+}

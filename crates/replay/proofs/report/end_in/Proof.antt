@@ -1,0 +1,44 @@
+-- `replay::report::end_in` meets its contract. Assumes nothing.
+use mathlib.Core.Path.{sym}
+use native.Mathlib.Omega.{arith}
+use lib.Seq.{length-take-le}
+use borrow.Author.Needs.{needs}
+use Rattle.replay.proofs.report.end_in.Statement.{statement}
+use Rattle.replay.proofs.report.end_in.Tie as tie
+
+read-number-requires : tie.Need-read-number-requires
+read-number-requires c κs = search needs
+
+cast-n : tie.Need-cast-n
+cast-n c = search needs
+
+returns : tie.Need-returns
+returns c = search needs
+
+slice-relend-prefix-end-named : tie.Need-slice-relend-prefix-end-named
+slice-relend-prefix-end-named c = search needs
+
+slice-aggregate-end-named : tie.Need-slice-aggregate-end-named
+slice-aggregate-end-named c = sym (length-take-le _ _ (omega arith))
+
+end-named-requires : tie.Need-end-named-requires
+end-named-requires c κs = search needs
+
+same-length : tie.Need-same-length
+same-length c = search needs
+
+returns-2 : tie.Need-returns-2
+returns-2 c = search needs
+
+pub end-in-spec : {M : Type 1} → statement M
+end-in-spec =
+    tie.close
+    (tie.spec
+    read-number-requires
+    cast-n
+    returns
+    slice-relend-prefix-end-named
+    slice-aggregate-end-named
+    end-named-requires
+    same-length
+    returns-2)

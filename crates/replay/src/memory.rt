@@ -1,0 +1,84 @@
+// A memory: numbers by cell, on which the calls are made. README.md has the map of its cells.
+ghost use mathlib.Core.Path.{_≡_};
+ghost use Prim.Native.Nat.{_≤_};
+ghost use lib.ListN.{getD, set};
+
+pub const CELLS: usize = 70112;
+
+// The cells before those of the load, which are not saved.
+pub const SAVED: usize = 20952;
+
+// The number in a cell, and 0 past the last.
+pub fn cell(memory: &[u32], at: usize) -> u32
+    ensures { λ r. ⌜ r ≡ getD (now (memory .entry)) at 0 ⌝ }
+{
+    if at < memory.len() { memory[at] } else { 0 }
+}
+
+// Writes a number to a cell, if there is one.
+pub fn set_cell(memory: &mut [u32], at: usize, number: u32)
+    ensures { λ _. ⌜ now (memory .exit) ≡ set (now (memory .entry)) at number ⌝ }
+{
+    if at < memory.len() {
+        memory[at] = number;
+    }
+}
+
+// The length in a cell, and no more than `most`.
+pub fn length_in(memory: &[u32], at: usize, most: usize) -> usize
+    ensures { λ r. ⌜ r ≤ most ⌝ }
+{
+    let length = cell(memory, at) as usize;
+    if length < most { length } else { most }
+}
+
+// Fills the row from the cells.
+pub fn take_numbers(memory: &[u32], at: usize, row: &mut [u32]) {
+    let mut i = 0;
+    while i < row.len() {
+        row[i] = cell(memory, std::num::wrapping_add_usize(at, i));
+        i += 1;
+    }
+}
+
+pub fn take_bytes(memory: &[u32], at: usize, row: &mut [u8]) {
+    let mut i = 0;
+    while i < row.len() {
+        row[i] = (cell(memory, std::num::wrapping_add_usize(at, i)) % 256) as u8;
+        i += 1;
+    }
+}
+
+// Writes the row to the cells.
+pub fn give_numbers(memory: &mut [u32], at: usize, row: &[u32]) {
+    let mut i = 0;
+    while i < row.len() {
+        set_cell(&mut *memory, std::num::wrapping_add_usize(at, i), row[i]);
+        i += 1;
+    }
+}
+
+fn wide(b: u8) -> u32 {
+    b as u32
+}
+
+pub fn give_bytes(memory: &mut [u32], at: usize, row: &[u8]) {
+    let mut i = 0;
+    while i < row.len() {
+        set_cell(
+            &mut *memory,
+            std::num::wrapping_add_usize(at, i),
+            wide(row[i]),
+        );
+        i += 1;
+    }
+}
+
+// Fills the row with one number.
+pub fn fill(row: &mut [u32], number: u32) {
+    let mut i = 0;
+    while i < row.len() {
+        row[i] = number;
+        i += 1;
+    }
+}

@@ -1,0 +1,161 @@
+//! Calls with what they must give, written by hand from document 01: the model that the text's values come from has to agree.
+
+use crate::memory::*;
+use crate::text::Text;
+
+/// What a lent buffer holds before a run, so that a number left alone shows.
+const MARK: u32 = 7;
+
+/// What a run is lent beside the dictionary: a load, and so many numbers of store, findings and list work buffer.
+pub struct Lent<'a> {
+    pub load: &'a [u32],
+    pub store: usize,
+    pub findings: usize,
+    pub work: usize,
+}
+
+/// The dictionary's counters.
+pub type Counters = [u32; 2];
+
+#[track_caller]
+fn is_number(text: &Text, number: u32) {
+    assert_eq!(text.memory().0[NUMBER], number, "the call's number");
+}
+
+#[track_caller]
+pub fn counters(text: &Text, want: Counters) {
+    assert_eq!(text.memory().counters(), want, "terms and bytes used");
+}
+
+/// A start in a table and an arena of these lengths, which is accepted: 31 terms of 1,325 bytes.
+#[track_caller]
+pub fn begin(text: &mut Text, table: usize, arena: usize) {
+    lengths(text, table, arena);
+    text.call(Call::Start);
+    is_number(text, 0);
+    counters(text, [31, 1325]);
+}
+
+/// So much of the table and of the arena is lent from now on.
+pub fn lengths(text: &mut Text, table: usize, arena: usize) {
+    text.change(|m| {
+        m.lend_first(TABLE, table);
+        m.lend_first(ARENA, arena);
+    });
+}
+
+/// A put that answers the number and the id, and leaves these counters.
+#[track_caller]
+fn put(text: &mut Text, kind: u32, bytes: &[u8], number: u32, id: u32, after: Counters) {
+    text.change(|m| {
+        m.0[KIND] = kind;
+        m.lend_bytes(TERM, bytes);
+    });
+    text.call(Call::Put);
+    is_number(text, number);
+    assert_eq!(text.memory().0[NEW_ID], id, "the id");
+    counters(text, after);
+}
+
+/// A put of a new term, which gets the next id and leaves so many bytes used.
+#[track_caller]
+pub fn put_new(text: &mut Text, kind: u32, bytes: &[u8], id: u32, used: u32) {
+    put(text, kind, bytes, 0, id, [id + 1, used]);
+}
+
+/// A put that changes nothing: of a term held, or refused.
+#[track_caller]
+pub fn put_same(text: &mut Text, kind: u32, bytes: &[u8], number: u32, id: u32) {
+    let before = text.memory().clone();
+    put(text, kind, bytes, number, id, before.counters());
+    for r in [TABLE, ARENA] {
+        assert_eq!(before.lent(r), text.memory().lent(r), "a buffer changed");
+    }
+}
+
+/// A lookup that answers the number, the kind and the bytes.
+#[track_caller]
+pub fn look(text: &mut Text, id: u32, number: u32, kind: u32, bytes: &[u8]) {
+    text.change(|m| m.0[ID] = id);
+    text.call(Call::Lookup);
+    is_number(text, number);
+    assert_eq!(text.memory().0[FOUND_KIND], kind, "the kind");
+    assert_eq!(text.memory().lent_bytes(PART), bytes, "the part");
+}
+
+/// Contents that are a dictionary's: id 0 is found.
+#[track_caller]
+pub fn whole(text: &mut Text) {
+    look(text, 0, 0, 1, b"urn:_");
+}
+
+/// Contents that no sequence of puts leaves: any lookup is refused with 1 and an empty part.
+#[track_caller]
+pub fn broken(text: &mut Text) {
+    look(text, 0, 1, 0, b"");
+    look(text, 4294967295, 1, 0, b"");
+}
+
+/// A run that answers the number and the triple count, and leaves these counters.
+#[track_caller]
+fn run(text: &mut Text, lent: &Lent, number: u32, count: usize, after: Counters) {
+    text.change(|m| {
+        m.lend(LOAD, lent.load);
+        m.lend(STORE, &vec![MARK; lent.store]);
+        m.lend(FINDINGS, &vec![MARK; lent.findings]);
+        m.lend(WORK, &vec![MARK; lent.work]);
+    });
+    text.call(Call::Run);
+    is_number(text, number);
+    assert_eq!(text.memory().0[COUNT] as usize, count, "the triple count");
+    counters(text, after);
+}
+
+/// The numbers, then zeros.
+#[track_caller]
+fn holds(text: &Text, r: Region, numbers: &[u32]) {
+    let (first, others) = text.memory().lent(r).split_at(numbers.len());
+    assert_eq!(first, numbers);
+    assert!(others.iter().all(|n| *n == 0), "zeros after them");
+}
+
+/// A run that is accepted: the answer, then zeros; the findings, then zeros; a list work buffer of zeros.
+#[track_caller]
+pub fn accept(text: &mut Text, lent: &Lent, answer: &[u32], found: &[u32], after: Counters) {
+    run(text, lent, 0, answer.len() / 3, after);
+    let mut counts = [0; 5];
+    found.chunks(5).for_each(|record| counts[record[0] as usize - 1] += 1);
+    assert_eq!(text.memory().0[COUNTS..COUNTS + 5], counts, "five counts");
+    holds(text, STORE, answer);
+    holds(text, FINDINGS, found);
+    holds(text, WORK, &[]);
+}
+
+/// A run that is refused: by 1 to 7 the buffers stay as they are, by 8 and 9 they are all zero.
+#[track_caller]
+pub fn refuse(text: &mut Text, lent: &Lent, number: u32, after: Counters) {
+    run(text, lent, number, 0, after);
+    assert_eq!(text.memory().0[COUNTS..COUNTS + 5], [0; 5], "five counts");
+    let left = if number < 8 { MARK } else { 0 };
+    for r in [STORE, FINDINGS, WORK] {
+        assert!(text.memory().lent(r).iter().all(|n| *n == left), "a buffer of {left}");
+    }
+}
+
+/// The number at a place of the table.
+#[track_caller]
+pub fn number_at(text: &Text, at: usize, want: u32) {
+    assert_eq!(text.memory().lent(TABLE)[at], want);
+}
+
+/// The entry at a place of the table: start, length, kind and next id.
+#[track_caller]
+pub fn entry_at(text: &Text, at: usize, want: [u32; 4]) {
+    assert_eq!(text.memory().lent(TABLE)[at..at + 4], want);
+}
+
+/// Bytes of the arena from a place on.
+#[track_caller]
+pub fn bytes_at(text: &Text, at: usize, want: &[u8]) {
+    assert_eq!(text.memory().lent_bytes(ARENA)[at..at + want.len()], *want);
+}
