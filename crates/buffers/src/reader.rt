@@ -1,6 +1,6 @@
 // The text: decimal numbers, each ended by a space or a line feed.
-use closer_input::decimal::Field;
-use closer_input::decimal::number;
+use decimal::Field;
+use decimal::number;
 ghost use Prim.Native.Nat.{_≤_};
 ghost use lib.ListN.{length};
 

@@ -3,9 +3,9 @@ use mathlib.Core.List.{[], _∷_}
 use Prim.Native.Nat.{ℕ, _^_, _≤_, _<_}
 use native.Mathlib.Omega.{arith}
 use lib.ListN.{length, length-append}
-use Rattle.closer_input.specs.Decimal.{digits}
+use Rattle.decimal.specs.Decimal.{digits}
 use Rattle.closer_input.specs.Output.{line}
-use Rattle.closer_input.proofs.Writing.{short-digits}
+use Rattle.decimal.proofs.Writing.{short-digits}
 
 -- ten digits and one byte more for each id
 pub short-line : (a b c : ℕ) → a < 2 ^ 32 → b < 2 ^ 32 → c < 2 ^ 32 → length (line (a ∷ b ∷ c ∷ [])) ≤ 33

@@ -1,7 +1,7 @@
 -- The cases of specs/Cases.antt hold of the definitions: one theorem over the table. Assumes nothing.
 use mathlib.Core.Path.{refl}
 use Rattle.common.specs.Containers.{all-digits, value}
-use Rattle.closer_input.specs.Decimal.{number, digits-within, digits}
+use Rattle.decimal.specs.Decimal.{number, digits-within, digits}
 use Rattle.closer_input.specs.Input.{parts, id-line, id-lines, read, parse}
 use Rattle.closer_input.specs.Output.{line, table}
 use Rattle.closer_input.specs.Cases.{AllHold, cases}

@@ -1,4 +1,3 @@
-pub mod Numerals
 pub mod Writing
 pub mod Reading
 pub mod Longest

@@ -12,8 +12,8 @@ use lib.ListN.{length, take, drop, length-take, length-drop}
 use lib.Seq.{take-nil}
 use borrow.Author.Tests.{leb-true, leb-false, le-leb, lt-leb}
 use Rattle.closer_input.specs.Input.{before, parts, lines, fields, id, three-ids, id-line, count-line, reading, id-lines, read-lines, read, bad-line, input, parsed, parse}
-use Rattle.closer_input.proofs.Numerals.{either, numeral, digits-number, few-digits}
-use Rattle.closer_input.proofs.Writing.{short-digits}
+use Rattle.decimal.proofs.Numerals.{either, numeral, digits-number, few-digits}
+use Rattle.decimal.proofs.Writing.{short-digits}
 use Rattle.closer_input.proofs.Reading.{fields-some, after-line, lines-next}
 
 -- none is not some

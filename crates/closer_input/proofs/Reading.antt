@@ -13,17 +13,18 @@ use lib.ListN.{length, getD, take, drop, set, length-drop, drop-of-length-le}
 use lib.Seq.{sets, length-sets, length-take-le, drop-cons, drop-drop, take-nil}
 use borrow.Author.Tests.{ltb-true, ltb-false, eq-eqb, ne-eqb, le-leb}
 use Rattle.closer_input.specs.Input.{before, parts, lines, fields, id, three-ids, id-line, count-line, reading, id-lines, read-lines, read, bad-line, input, parse}
-use Rattle.closer_input.specs.Contracts.{number-of, part, TwoSpaces, SpacesOf, ids-of, parsed-of, lines-of, ParseOf}
-use Rattle.closer_input.specs.declared.decimal.Field.{Field}
-use Rattle.closer_input.specs.declared.decimal.Field.the-variants.{Number, Bad as No-number}
+use Rattle.decimal.specs.Contracts.{number-of}
+use Rattle.closer_input.specs.Contracts.{part, TwoSpaces, SpacesOf, ids-of, parsed-of, lines-of, ParseOf}
+use Rattle.decimal.specs.declared.Field.{Field}
+use Rattle.decimal.specs.declared.Field.the-variants.{Number, Bad as No-number}
 use Rattle.closer_input.specs.declared.input.Spaces.{Spaces}
 use Rattle.closer_input.specs.declared.input.Spaces.the-variants.{Two, Other}
 use Rattle.closer_input.specs.declared.input.Line.{Line}
 use Rattle.closer_input.specs.declared.input.Line.the-variants.{Ids, Bad as No-ids}
 use Rattle.closer_input.specs.declared.input.Parsed.{Parsed as Answer}
 use Rattle.closer_input.specs.declared.input.Parsed.the-variants.{Bad, Input}
-use Rattle.closer_input.proofs.Numerals.{either, number-empty}
-use Rattle.closer_input.proofs.Writing.{sets-append, take-sets}
+use Rattle.decimal.proofs.Numerals.{either, number-empty}
+use Rattle.decimal.proofs.Writing.{sets-append, take-sets}
 
 -- THE FIRST e of a text
 before-found : (e b : ℕ) (bs : List ℕ) → b ≡ e → before e (b ∷ bs) ≡ []

@@ -7,19 +7,12 @@ use Prim.Native.Nat.{ℕ, _+_, _-_, _*_, _≤_, _<_}
 use lib.ListN.{length, take, drop}
 use lib.Seq.{sets}
 use Rattle.closer_input.specs.Input.{fields, id-line, Parsed, bad-line, input, read, parse}
-use Rattle.closer_input.specs.declared.decimal.Field.{Field}
-use Rattle.closer_input.specs.declared.decimal.Field.the-variants.{Number, Bad as No-number}
 use Rattle.closer_input.specs.declared.input.Spaces.{Spaces}
 use Rattle.closer_input.specs.declared.input.Spaces.the-variants.{Two, Other}
 use Rattle.closer_input.specs.declared.input.Line.{Line}
 use Rattle.closer_input.specs.declared.input.Line.the-variants.{Ids, Bad as No-ids}
 use Rattle.closer_input.specs.declared.input.Parsed.{Parsed as Answer}
 use Rattle.closer_input.specs.declared.input.Parsed.the-variants.{Bad, Input}
-
--- the answer of `number`, none where the bytes are no number
-abbrev pub number-of : Field → Option ℕ
-number-of (Number n) = some n
-number-of No-number = none
 
 -- the bytes from place `at` up to place `end`
 abbrev pub part : List ℕ → ℕ → ℕ → List ℕ
@@ -56,14 +49,6 @@ pub record ParseOf (text old : List ℕ) (r : Answer) (new : List ℕ) : Type 0 
   pub answer : parsed-of r new ≡ parse text
   pub ids : new ≡ sets old 0 (read text .ids)
   pub few : lines-of r ≤ 1000
-
--- the bytes stand in the buffer from place `at` on, and the rest is as it was; `next` is the place after them
-pub record Wrote (old : List ℕ) (at : ℕ) (bytes new : List ℕ) (next : ℕ) : Type 0 where
-  pub out : new ≡ sets old at bytes
-  pub end : next ≡ at + length bytes
-  pub within : next ≤ length new
-  -- follows from `within`, and is stated so that a program that prints `&out[..next]` finds it
-  pub front : next ≡ length (take next new)
 
 -- rows of `width` numbers, and room for a line each: a number has at most ten digits
 pub record TableFits (numbers : List ℕ) (width rows : ℕ) (out : List ℕ) (at : ℕ) : Type 0 where

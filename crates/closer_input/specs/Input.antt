@@ -7,7 +7,7 @@ use mathlib.Core.List.{List, [], _∷_, _++_}
 use Prim.Native.Nat.{ℕ, suc}
 use lib.Dec.{leb, eqb}
 use Rattle.common.specs.Triples.{if}
-use Rattle.closer_input.specs.Decimal.{number}
+use Rattle.decimal.specs.Decimal.{number}
 
 -- the bytes before the first e, or all where there is none
 unfoldable pub before : ℕ → List ℕ → List ℕ

@@ -1,4 +1,3 @@
-pub mod Decimal
 pub mod Input
 pub mod Output
 pub mod Contracts

@@ -6,7 +6,7 @@ use Prim.Native.Nat.{ℕ, zero, suc}
 use lib.ListN.{length, take, drop}
 use Rattle.common.specs.Text.{text}
 use Rattle.common.specs.Triples.{Triple, Finding, concat-map}
-use Rattle.closer_input.specs.Decimal.{digits}
+use Rattle.decimal.specs.Decimal.{digits}
 
 -- the byte after a number of a line: a space where others follow it, the line feed where none does
 abbrev pub ending : ℕ → ℕ

@@ -1,6 +1,6 @@
 // The input: lines, the first of them a count, the others three ids each.
-use crate::decimal::Field;
-use crate::decimal::number;
+use decimal::Field;
+use decimal::number;
 ghost use mathlib.Core.Path.{_≡_};
 ghost use Prim.Native.Nat.{_+_, _≤_};
 ghost use lib.ListN.{length, drop};

@@ -1,5 +1,4 @@
 // What program closer reads and prints, as functions on slices.
-pub mod decimal; // decimal.rt: one number, read and written
 pub mod input; // input.rt: the count and the id lines
 pub mod output; // output.rt: lines of numbers, and the program's four outputs
 

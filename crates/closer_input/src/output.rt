@@ -1,10 +1,11 @@
 // The output: lines of decimal numbers, one space between.
-use crate::decimal::put_number;
+use decimal::put_number;
 ghost use mathlib.Core.Path.{_≡_};
 ghost use Prim.Native.Nat.{_+_, _*_, _≤_};
 ghost use lib.ListN.{length};
 ghost use Rattle.closer_input.specs.Output.{ending as Output·ending, line, table, answer, refusal, bad-line-text, name};
-ghost use Rattle.closer_input.specs.Contracts.{Wrote, TableFits, AnswerFits};
+ghost use Rattle.decimal.specs.Contracts.{Wrote};
+ghost use Rattle.closer_input.specs.Contracts.{TableFits, AnswerFits};
 
 // How many numbers the program's store of 2,000 triples and its findings of 400 records hold.
 pub const STORE: usize = 3 * 2000;

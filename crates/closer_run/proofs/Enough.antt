@@ -21,11 +21,11 @@ use Rattle.term_layout.proofs.Holding.{Added, put-cases, Holds, holds-start, ho
 use Rattle.term_layout.proofs.Reachable.{start-accepts, on-layout}
 use Rattle.run_terms.proofs.Running.{put-on}
 use Rattle.reasoner.specs.Run.{Lent, lent, Run-answer, Run-result, unchanged, shown, closed, stop, first-met, run-stops, run-brought, run-passed, reckon-run, run-laid, run-gives}
-use Rattle.closer_input.specs.Decimal.{digits}
+use Rattle.decimal.specs.Decimal.{digits}
 use Rattle.closer_input.specs.Input.{on, id, three-ids, fields, id-line, id-lines, count-line, lines, read-lines, reading, read, bad-line, input, parse}
 use Rattle.closer_input.specs.Output.{name}
 use Rattle.closer_input.proofs.Longest.{count-small}
-use Rattle.closer_input.proofs.Writing.{short-digits}
+use Rattle.decimal.proofs.Writing.{short-digits}
 use Rattle.closer_run.specs.Program.{named, dictionary, ran}
 
 -- PUTS with room

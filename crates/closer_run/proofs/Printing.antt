@@ -23,7 +23,8 @@ use Rattle.reasoner.specs.declared.values.RunNext.{RunNext}
 use Rattle.calls.proofs.Growth.{AcceptedRun, run-accepted}
 use Rattle.closer_input.specs.Input.{bad-line, input, parse}
 use Rattle.closer_input.specs.Output.{answer, refusal, bad-line-text}
-use Rattle.closer_input.specs.Contracts.{ParseOf, Wrote, AnswerFits}
+use Rattle.decimal.specs.Contracts.{Wrote}
+use Rattle.closer_input.specs.Contracts.{ParseOf, AnswerFits}
 use Rattle.closer_input.proofs.Longest.{parse-cut}
 use Rattle.closer_run.specs.Program.{named, dictionary, ran, by-number, printed-run, printed, output}
 use Rattle.closer_run.specs.Contracts.{Ran}

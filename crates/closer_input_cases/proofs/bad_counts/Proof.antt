@@ -2,7 +2,7 @@
 use borrow.Author.Needs.{needs}
 use borrow.Author.Tests.{eq-eqb}
 use Rattle.common.specs.Containers.{all-digits, value}
-use Rattle.closer_input.specs.Decimal.{number}
+use Rattle.decimal.specs.Decimal.{number}
 use Rattle.closer_input.specs.Input.{parts, id-line, id-lines, read, parse}
 use Rattle.closer_input_cases.proofs.bad_counts.Statement.{statement}
 use Rattle.closer_input_cases.proofs.bad_counts.Tie as tie

@@ -6,7 +6,7 @@ use native.Mathlib.Omega.{arith}
 use borrow.Author.Needs.{needs}
 use Rattle.term_layout.specs.Values.{contents}
 use Rattle.index.specs.Values.{put-left}
-use Rattle.closer_input.proofs.Writing.{wrote-front}
+use Rattle.decimal.proofs.Writing.{wrote-front}
 use Rattle.closer_run.specs.Program.{named}
 use Rattle.closer_run.proofs.Names.{no-names, next-name}
 use Rattle.closer_run.proofs.put_names.Statement.{statement}

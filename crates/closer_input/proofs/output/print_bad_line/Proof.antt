@@ -3,7 +3,8 @@ use native.Mathlib.Omega.{arith}
 use lib.ListN.{length-set}
 use mathlib.Core.Path.{_∙_}
 use borrow.Author.Needs.{needs}
-use Rattle.closer_input.proofs.Writing.{wrote-length, wrote-byte, wrote-then, number-fits, byte-fits}
+use Rattle.decimal.proofs.Writing.{wrote-length, wrote-byte, wrote-then}
+use Rattle.closer_input.proofs.Writing.{number-fits, byte-fits}
 use Rattle.closer_input.proofs.output.print_bad_line.Statement.{statement}
 use Rattle.closer_input.proofs.output.print_bad_line.Tie as tie
 

@@ -1,6 +1,7 @@
 -- `output::print_name` meets its contract. Assumes nothing.
 use borrow.Author.Needs.{needs}
-use Rattle.closer_input.proofs.Writing.{wrote-then, number-fits}
+use Rattle.decimal.proofs.Writing.{wrote-then}
+use Rattle.closer_input.proofs.Writing.{number-fits}
 use Rattle.closer_input.proofs.output.print_name.Statement.{statement}
 use Rattle.closer_input.proofs.output.print_name.Tie as tie
 

@@ -2,7 +2,8 @@
 use Prim.Native.Nat.{_-_}
 use lib.ListN.{length}
 use borrow.Author.Needs.{needs}
-use Rattle.closer_input.proofs.Writing.{Copied, copied-start, copied-room, copied-step, copied-end, wrote-length}
+use Rattle.decimal.proofs.Writing.{wrote-length}
+use Rattle.closer_input.proofs.Writing.{Copied, copied-start, copied-room, copied-step, copied-end}
 use Rattle.closer_input.proofs.output.put_bytes.Statement.{statement}
 use Rattle.closer_input.proofs.output.put_bytes.Tie as tie
 

@@ -3,7 +3,8 @@ use Prim.Native.Nat.{_-_}
 use native.Mathlib.Omega.{arith}
 use lib.ListN.{length}
 use borrow.Author.Needs.{needs}
-use Rattle.closer_input.proofs.Writing.{wrote-length, Lined, lined-start, lined-length, lined-number, lined-byte, lined-step, lined-end}
+use Rattle.decimal.proofs.Writing.{wrote-length}
+use Rattle.closer_input.proofs.Writing.{Lined, lined-start, lined-length, lined-number, lined-byte, lined-step, lined-end}
 use Rattle.closer_input.proofs.output.put_line.Statement.{statement}
 use Rattle.closer_input.proofs.output.put_line.Tie as tie
 

@@ -15,7 +15,7 @@ use lib.Seq.{drop-cons}
 use borrow.Author.Tests.{ltb-true, ltb-false, leb-true, leb-false, eqb-false, lt-ltb, le-ltb, le-leb, lt-leb, eq-eqb, ne-eqb}
 use Rattle.common.specs.Triples.{if}
 use Rattle.common.specs.Containers.{is-digit, all-digits, value}
-use Rattle.closer_input.specs.Decimal.{no-leading-zero, number, digits-within, digits}
+use Rattle.decimal.specs.Decimal.{no-leading-zero, number, digits-within, digits}
 
 -- a test is one or the other
 pub either : (b : Bool) → (b ≡ true) ⊎ (b ≡ false)

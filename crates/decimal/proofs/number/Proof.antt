@@ -4,9 +4,9 @@ use mathlib.Core.Path.{sym}
 use native.Mathlib.Omega.{arith}
 use lib.ListN.{length}
 use borrow.Author.Needs.{needs}
-use Rattle.closer_input.proofs.Numerals.{number-empty, number-zero, Counted, counted-start, counted-low, counted-high, counted-over, counted-step, counted-end, zero-led, leads, leads-not}
-use Rattle.closer_input.proofs.decimal.number.Statement.{statement}
-use Rattle.closer_input.proofs.decimal.number.Tie as tie
+use Rattle.decimal.proofs.Numerals.{number-empty, number-zero, Counted, counted-start, counted-low, counted-high, counted-over, counted-step, counted-end, zero-led, leads, leads-not}
+use Rattle.decimal.proofs.number.Statement.{statement}
+use Rattle.decimal.proofs.number.Tie as tie
 
 abbrev Inv-loop : tie.InvT-loop
 Inv-loop bytes most value₀ i₀ value i =

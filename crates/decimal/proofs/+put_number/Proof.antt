@@ -5,12 +5,12 @@ use lib.ListN.{length-set}
 use borrow.Author.Needs.{needs}
 use borrow.Fn.Kinds.{In}
 use borrow.Fn.PlainCycle.{Measures, is, falls, and}
-use Rattle.closer_input.proofs.Writing.{length-one, length-more, wrote-length, wrote-one, last-fits, wrote-more}
-use Rattle.closer_input.proofs.decimal.put_number.Reads as put-number
-use Rattle.closer_input.proofs.decimal.put_number.Kinds as put-number-kinds
-use Rattle.closer_input.proofs.decimal.+put_number.Lts-put_number as put-number-lts
-use Rattle.closer_input.proofs.decimal.+put_number.{statement}
-use Rattle.closer_input.proofs.decimal.+put_number.Tie.{close}
+use Rattle.decimal.proofs.Writing.{length-one, length-more, wrote-length, wrote-one, last-fits, wrote-more}
+use Rattle.decimal.proofs.put_number.Reads as put-number
+use Rattle.decimal.proofs.put_number.Kinds as put-number-kinds
+use Rattle.decimal.proofs.+put_number.Lts-put_number as put-number-lts
+use Rattle.decimal.proofs.+put_number.{statement}
+use Rattle.decimal.proofs.+put_number.Tie.{close}
 
 abbrev μ-put-number : Measures 1 put-number-kinds.ps ℕ
 μ-put-number κs a = a .0

@@ -2,8 +2,8 @@
 ghost use mathlib.Core.Path.{_≡_};
 ghost use Prim.Native.Nat.{_+_, _≤_};
 ghost use lib.ListN.{length};
-ghost use Rattle.closer_input.specs.Decimal.{number as decimal·number, digits};
-ghost use Rattle.closer_input.specs.Contracts.{number-of, Wrote};
+ghost use Rattle.decimal.specs.Decimal.{number as decimal·number, digits};
+ghost use Rattle.decimal.specs.Contracts.{number-of, Wrote};
 
 // The number of a field, if it is one.
 pub enum Field {
