@@ -14,10 +14,10 @@ use Rattle.common.proofs.Lists.{in-nil, in-cons}
 use Rattle.common.proofs.Order.{same-list, sub-length, in-insert-all→, in-insert-all-new, ascending-insert-all, insert-distinct, finding-tells}
 use Rattle.common.proofs.Checks.{findings-ascending, findings→, findings←}
 use Rattle.rows.specs.Rows.{rows, findingAt, finding-rows}
-use Rattle.rows.specs.Sorted.{Sorted}
-use Rattle.rows.specs.Answer.{cleared}
+use Rattle.rows.specs.Zeros.{cleared}
 use Rattle.rows.proofs.Listed.{listed-none, length-listed}
-use Rattle.rows.proofs.Filled.{findings-left}
+use Rattle.sort.specs.Sorted.{Sorted}
+use Rattle.sort.proofs.Filled.{findings-left}
 use Rattle.checks.specs.declared.Checked.{Checked}
 use Rattle.checks.specs.Pairs.{GivenByRows}
 use Rattle.checks.specs.Findings.{Ready, Appended, nothing-yet, Checks}

@@ -9,7 +9,7 @@ use rows::contains;
 use rows::head;
 use rows::link;
 use rows::row;
-use rows::sort_rows;
+use sort::sort_rows;
 ghost use mathlib.Core.Path.{_≡_};
 ghost use mathlib.Core.Bool.{true, false};
 ghost use Prim.Native.Nat.{ℕ, _+_, _-_, _*_, _≤_, _<_};

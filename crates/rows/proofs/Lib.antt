@@ -6,12 +6,5 @@ pub mod Adds
 pub mod Membership
 pub mod Indexes
 pub mod Walking
-pub mod Lex
-pub mod Numbers
-pub mod Shuffles
-pub mod Heap
-pub mod Permuting
-pub mod Sifting
-pub mod Ordered
 pub mod Removing
-pub mod Filled
+pub mod Clearing

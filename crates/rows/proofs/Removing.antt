@@ -11,7 +11,7 @@ use lib.ListN.{length, getD}
 use Rattle.common.specs.Triples.{Triple, if, concat-map}
 use Rattle.common.specs.Closure.{no-zero, without-zero}
 use Rattle.rows.specs.Rows.{width, rowAt, setRow, rows}
-use Rattle.rows.specs.Answer.{Kept}
+use Rattle.rows.specs.Zeros.{Kept}
 use Rattle.rows.proofs.Listed.{listed-none, listed-more}
 use Rattle.rows.proofs.Rows.{row-ext, put-other, length-put, rows-put}
 

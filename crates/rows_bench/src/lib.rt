@@ -1,8 +1,8 @@
-// What the measurements of crate rows link: the sort, and appending with repeats. The harness is harness/rows_bench.
+// What the measurements of crates rows and sort link: the sort, and appending with repeats. The harness is harness/rows_bench.
 use rows::Added;
 use rows::add;
 use rows::row;
-use rows::sort_rows;
+use sort::sort_rows;
 ghost use Prim.Native.Nat.{ℕ, _*_, _<_, _≤_, _^_};
 ghost use lib.ListN.{length};
 ghost use Rattle.rows.specs.Store.{Good};

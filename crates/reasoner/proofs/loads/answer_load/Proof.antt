@@ -10,7 +10,7 @@ use Rattle.reasoner.proofs.loads.answer_load.Lts as lts
 use Rattle.checks.proofs.check.Reads as check-reads
 use Rattle.reasoner.proofs.loads.close_load.Reads as close-load-reads
 use Rattle.reasoner.proofs.loads.refused.Reads as refused-reads
-use Rattle.rows.proofs.leave_answer.Reads as leave-answer-reads
+use Rattle.sort.proofs.leave_answer.Reads as leave-answer-reads
 
 -- src/loads.rt:110:9
 close-load-requires : tie.Need-close-load-requires

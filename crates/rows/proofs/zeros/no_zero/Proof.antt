@@ -1,0 +1,17 @@
+-- `rows::no_zero` meets its contract. Assumes nothing.
+use Rattle.common.specs.Values.{triple-of}
+use Rattle.rows.proofs.Removing.{zero-first, zero-second, zero-last}
+use Rattle.rows.proofs.zeros.no_zero.Statement.{statement}
+use Rattle.rows.proofs.zeros.no_zero.Tie as tie
+
+returns : tie.Need-returns
+returns c = zero-first (triple-of (c .before .before .args .t)) (c .if1 .taken)
+
+returns-2 : tie.Need-returns-2
+returns-2 c = zero-second (triple-of (c .before .before .before .before .args .t)) (c .before .before .if1 .left) (c .if2 .taken)
+
+returns-3 : tie.Need-returns-3
+returns-3 c = zero-last (triple-of (c .before .before .before .before .before .args .t)) (c .before .before .before .if1 .left) (c .before .if2 .left)
+
+pub no-zero-spec : {M : Type 1} → statement M
+no-zero-spec = tie.close (tie.spec returns returns-2 returns-3)

@@ -1,0 +1,4 @@
+pub mod Order
+pub mod Sorted
+pub mod Steps
+pub mod Answer
