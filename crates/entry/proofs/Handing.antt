@@ -8,6 +8,8 @@ use native.Mathlib.Omega.{arith}
 use lib.Dec.{T, eqb, leb}
 use lib.ListN.{length, take, replicate, length-replicate}
 use lib.Seq.{length-take-le}
+use mir.Syntax.{w64}
+use mir.Val.{Fits}
 use borrow.Author.Tests.{eq-eqb, ne-eqb, eqb-true, eqb-false, leb-true, leb-false}
 use Rattle.common.specs.Triples.{if}
 use Rattle.entry.specs.Bytes.{numbers-of, read-buffer, handed}
@@ -58,15 +60,40 @@ by-length most more b n e = go (eqb (length b % 4) 0) (leb (length b / 4) most) 
         let h = eqb-false (length b % 4) 0 i in
         ragged (e ∙ sym (handed-ragged most more (length b) h)) (read-ragged b h)
 
--- numbers that suffice for the longest buffer have as many in front
-module _ (most more : ℕ) (b l : List ℕ) (room : most ≤ length l) (one : 1 ≤ length l) (rest : more ≤ length l) {n : ℕ} (e : n ≡ handed most more (length b)) where
+-- numbers that suffice for every buffer: for the most that are handed on, for one, and for those in place of a longer one
+pub record Suffices (most more : ℕ) (l : List ℕ) : Type 0 where
+  pub room : most ≤ length l
+  pub one : 1 ≤ length l
+  pub rest : more ≤ length l
+
+pub table-enough : (l : List ℕ) → 262204 ≤ length l → Suffices 262204 1 l
+table-enough l h = record { room = h; one = omega arith; rest = omega arith }
+
+pub load-enough : (n : ℕ) (l : List ℕ) → 49157 ≤ length l → Suffices 49152 (49155 + n / 4 % 3) l
+load-enough n l h = record { room = omega arith; one = omega arith; rest = omega arith }
+
+pub store-enough : (l : List ℕ) → 196605 ≤ length l → Suffices 196605 1 l
+store-enough l h = record { room = h; one = omega arith; rest = omega arith }
+
+pub findings-enough : (l : List ℕ) → 327675 ≤ length l → Suffices 327675 1 l
+findings-enough l h = record { room = h; one = omega arith; rest = omega arith }
+
+pub work-enough : (l : List ℕ) → 131076 ≤ length l → Suffices 131076 131076 l
+work-enough l h = record { room = h; one = omega arith; rest = h }
+
+-- the numbers in place of a longer load are few
+pub few-more : (n : ℕ) → Fits w64 (49155 + n / 4 % 3)
+few-more n = record { fits = omega arith }
+
+-- such numbers have as many in front
+module _ (most more : ℕ) (b l : List ℕ) (h : Suffices most more l) {n : ℕ} (e : n ≡ handed most more (length b)) where
   pub prefix-fits : n ≤ length l
   prefix-fits = go (by-length most more b n e)
     where
       go : Handed most more b n → n ≤ length l
-      go (whole p u q r) = omega arith
-      go (ragged p q) = omega arith
-      go (long p q r s) = omega arith
+      go (whole p u q r) = omega (arith, h .room)
+      go (ragged p q) = omega (arith, h .one)
+      go (long p q r s) = omega (arith, h .rest)
 
   pub prefix-count : n ≡ length (take n l)
   prefix-count = sym (length-take-le n l prefix-fits)
@@ -74,13 +101,31 @@ module _ (most more : ℕ) (b l : List ℕ) (room : most ≤ length l) (one : 1 
   pub prefix-handed : length (take n l) ≡ handed most more (length b)
   prefix-handed = sym prefix-count ∙ e
 
+pub all-handed : {t l s f w : List ℕ} → Enough t l s f w → (table : List ℕ) (b : Lent) {i j k m n : ℕ}
+    → i ≡ handed 262204 1 (length table)
+    → j ≡ handed 49152 (49155 + length (b .load) / 4 % 3) (length (b .load))
+    → k ≡ handed 196605 1 (length (b .store))
+    → m ≡ handed 327675 1 (length (b .findings))
+    → n ≡ handed 131076 131076 (length (b .work))
+    → Handed-on (take i t) (take j l) (take k s) (take m f) (take n w) table b
+all-handed {t} {l} {s} {f} {w} h table b p q x y z = record {
+  table-numbers = prefix-handed 262204 1 table t (table-enough t (h .table-room)) p;
+  load-numbers = prefix-handed 49152 (49155 + length (b .load) / 4 % 3) (b .load) l (load-enough (length (b .load)) l (h .load-room)) q;
+  store-numbers = prefix-handed 196605 1 (b .store) s (store-enough s (h .store-room)) x;
+  findings-numbers = prefix-handed 327675 1 (b .findings) f (findings-enough f (h .findings-room)) y;
+  work-numbers = prefix-handed 131076 131076 (b .work) w (work-enough w (h .work-room)) z;
+}
+
 -- numbers that are read keep their lengths
 pub handed-read : {t l t' l' s f w table : List ℕ} {b : Lent} → Handed-on t l s f w table b → length t' ≡ length t → length l' ≡ length l → Handed-on t' l' s f w table b
 handed-read h p q = record { table-numbers = p ∙ h .table-numbers; load-numbers = q ∙ h .load-numbers; store-numbers = h .store-numbers; findings-numbers = h .findings-numbers; work-numbers = h .work-numbers }
 
 -- local arrays suffice
-pub enough : (t l s f w : ℕ) → 262204 ≤ t → 49157 ≤ l → 196605 ≤ s → 327675 ≤ f → 131076 ≤ w → Enough (replicate t 0) (replicate l 0) (replicate s 0) (replicate f 0) (replicate w 0)
-enough t l s f w p q x y z = record { table-room = long-enough t p; load-room = long-enough l q; store-room = long-enough s x; findings-room = long-enough f y; work-room = long-enough w z }
-  where
-    long-enough : {m : ℕ} (n : ℕ) → m ≤ n → m ≤ length (replicate {A = ℕ} n 0)
-    long-enough {m} n h = subst (λ (k : ℕ). m ≤ k) (sym (length-replicate {A = ℕ} n 0)) h
+long-enough : {m : ℕ} (n : ℕ) → m ≤ n → m ≤ length (replicate {A = ℕ} n 0)
+long-enough {m} n h = subst (λ (k : ℕ). m ≤ k) (sym (length-replicate {A = ℕ} n 0)) h
+
+pub table-array : 262204 ≤ length (replicate {A = ℕ} 262204 0)
+table-array = long-enough 262204 (omega arith)
+
+pub arrays : Enough (replicate 262204 0) (replicate 49157 0) (replicate 196605 0) (replicate 327675 0) (replicate 131076 0)
+arrays = record { table-room = table-array; load-room = long-enough 49157 (omega arith); store-room = long-enough 196605 (omega arith); findings-room = long-enough 327675 (omega arith); work-room = long-enough 131076 (omega arith) }

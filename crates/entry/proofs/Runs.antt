@@ -19,7 +19,7 @@ use Rattle.reasoner.specs.Values.{run-left}
 use Rattle.reasoner.specs.declared.values.RunNext.{RunNext}
 use Rattle.reasoner.proofs.Running.{run-broken}
 use Rattle.entry.specs.Bytes.{numbers-of, bytes-of, read-buffer, changes, left-bytes, cleared}
-use Rattle.entry.specs.Calls.{left-dict, read-lent, run-in-bytes, run-bytes-give, run-result, Handed-on}
+use Rattle.entry.specs.Calls.{left-dict, read-lent, run-in-bytes, run-bytes-give, run-result, Handed-on, Roomy}
 use Rattle.entry.proofs.Coding.{left-written, left-alone, cleared-yes, cleared-no, bytes-zeros}
 use Rattle.entry.proofs.Handing.{Handed, by-length}
 use Rattle.entry.proofs.Tables.{same-left, quiet-1, dict-alike, dict-room}
@@ -141,17 +141,20 @@ module _ (t l s f w table : List ℕ) (b : Lent) (h : Handed-on t l s f w table 
             let k : r .answer .number ≡ suc m = ap (λ (x : Run-result). x .answer .number) (e ∙ (gives d' b' v ∙ ap (passing d' b') q)) in
             absurd (told-false (changes (suc m)) (subst (λ (j : ℕ). false ≡ changes j) q (stops-quiet n b' (λ z. omega arith))) (subst (λ (j : ℕ). T (changes j)) k c))
 
-    pub table-room : length t' ≡ length t → T (changes (r .answer .number)) → length table ≡ 4 * length t'
+    table-room : length t' ≡ length t → T (changes (r .answer .number)) → length table ≡ 4 * length t'
     table-room k c = dict-room table t handed-table read-table a n u t' k (passed c .0)
 
     abbrev sizes : T (changes (r .answer .number)) → Whole t l s f w table b h read-load n
     sizes c = not-refused t l s f w table b h read-load n (passed c .1)
 
-    pub store-room : length s' ≡ length s → T (changes (r .answer .number)) → length (b .store) ≡ 4 * length s'
+    store-room : length s' ≡ length s → T (changes (r .answer .number)) → length (b .store) ≡ 4 * length s'
     store-room k c = omega (arith, sizes c .store-whole)
 
-    pub findings-room : length f' ≡ length f → T (changes (r .answer .number)) → length (b .findings) ≡ 4 * length f'
+    findings-room : length f' ≡ length f → T (changes (r .answer .number)) → length (b .findings) ≡ 4 * length f'
     findings-room k c = omega (arith, sizes c .findings-whole)
+
+    pub rooms : length t' ≡ length t → length s' ≡ length s → length f' ≡ length f → T (changes (r .answer .number)) → Roomy t' s' f' table (b .store) (b .findings)
+    rooms i j k c = record { table-room = table-room i c; store-room = store-room j c; findings-room = findings-room k c }
 
     pub run-done : {tb' sb' fb' wb' : List ℕ} → tb' ≡ left-bytes (r .answer .number) table t' → sb' ≡ left-bytes (r .answer .number) (b .store) s' → fb' ≡ left-bytes (r .answer .number) (b .findings) f' → wb' ≡ cleared (r .answer .number) (b .work)
         → run-result (r .answer .number) (r .answer .count) (r .answer .counts) sb' fb' wb' (dict tb' a' (r .counters .terms) (r .counters .used)) ≡ run-bytes-give (dict table a n u) b

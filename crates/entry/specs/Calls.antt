@@ -3,7 +3,7 @@
 -- shape'. Assumes nothing.
 use mathlib.Core.List.{List}
 use mathlib.Core.Path.{_≡_}
-use Prim.Native.Nat.{ℕ, _+_, _/_, _%_, _≤_}
+use Prim.Native.Nat.{ℕ, _+_, _*_, _/_, _%_, _≤_}
 use lib.ListN.{length, take, drop}
 use Rattle.term_layout.specs.Terms.{Term}
 use Rattle.term_layout.specs.Layout.{Dict, dict}
@@ -100,3 +100,9 @@ pub record Enough (t l s f w : List ℕ) : Type 0 where
   pub store-room : 196605 ≤ length s
   pub findings-room : 327675 ≤ length f
   pub work-room : 131076 ≤ length w
+
+-- buffers of bytes that hold just the numbers which a run left for table, store and findings
+pub record Roomy (t s f table store findings : List ℕ) : Type 0 where
+  pub table-room : length table ≡ 4 * length t
+  pub store-room : length store ≡ 4 * length s
+  pub findings-room : length findings ≡ 4 * length f

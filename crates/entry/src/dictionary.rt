@@ -3,6 +3,8 @@ use crate::numbers::how_many;
 use crate::numbers::read_numbers;
 use crate::numbers::write_back;
 use index::Counters;
+use index::PutNext;
+use index::Started;
 use index::is_valid;
 use index::put_by_value;
 use index::start;
@@ -13,43 +15,29 @@ ghost use lib.ListN.{length};
 ghost use Rattle.term_layout.specs.Terms.{term};
 ghost use Rattle.term_layout.specs.Layout.{dict};
 ghost use Rattle.term_layout.specs.Dictionary.{valid};
-ghost use Rattle.term_layout.specs.Calls.{start-result, put-result};
 ghost use Rattle.term_layout.specs.Values.{contents};
+ghost use Rattle.index.specs.Values.{start-left, put-left};
 ghost use Rattle.entry.specs.Bytes.{handed};
-ghost use Rattle.entry.specs.Calls.{read-dict, start-bytes-give, put-bytes-give, place-answer, Places};
+ghost use Rattle.entry.specs.Calls.{read-dict, start-bytes-give, put-bytes-give, Places};
 ghost use Rattle.entry.specs.Values.{placed};
 
 // Start, with as many numbers as it is handed. What stood in the table is not read.
-fn start_on(
-    numbers: &mut [u32],
-    table: &mut [u8],
-    arena: &mut [u8],
-    terms: &mut u32,
-    used: &mut u32,
-) -> u32
+fn start_on(numbers: &mut [u32], table: &mut [u8], arena: &mut [u8]) -> Started
     requires { ⌜ length (now numbers) ≡ handed 262204 1 (length (now table)) ⌝ }
-    ensures { λ r. ⌜ start-result r (dict (now (table .exit)) (now (arena .exit)) (now (terms .exit)) (now (used .exit))) ≡ start-bytes-give (now (table .entry)) (now (arena .entry)) ⌝ }
+    ensures { λ r. ⌜ start-left r (now (table .exit)) (now (arena .exit)) ≡ start-bytes-give (now (table .entry)) (now (arena .entry)) ⌝ }
 {
-    let started = start(&mut *numbers, &mut *arena);
-    write_back(started.number, &*numbers, &mut *table);
-    *terms = started.counters.terms;
-    *used = started.counters.used;
-    started.number
+    let started = start(&mut *numbers, arena);
+    write_back(started.number, &*numbers, table);
+    started
 }
 
 // Start, with numbers that suffice for every table.
-pub fn start_in(
-    numbers: &mut [u32],
-    table: &mut [u8],
-    arena: &mut [u8],
-    terms: &mut u32,
-    used: &mut u32,
-) -> u32
+pub fn start_in(numbers: &mut [u32], table: &mut [u8], arena: &mut [u8]) -> Started
     requires { ⌜ 262204 ≤ length (now numbers) ⌝ }
-    ensures { λ r. ⌜ start-result r (dict (now (table .exit)) (now (arena .exit)) (now (terms .exit)) (now (used .exit))) ≡ start-bytes-give (now (table .entry)) (now (arena .entry)) ⌝ }
+    ensures { λ r. ⌜ start-left r (now (table .exit)) (now (arena .exit)) ≡ start-bytes-give (now (table .entry)) (now (arena .entry)) ⌝ }
 {
     let n = how_many(table.len(), 262204, 1);
-    start_on(&mut numbers[..n], table, arena, terms, used)
+    start_on(&mut numbers[..n], table, arena)
 }
 
 // Put, with as many numbers as it is handed.
@@ -57,26 +45,17 @@ fn put_on(
     numbers: &mut [u32],
     table: &mut [u8],
     arena: &mut [u8],
-    terms: &mut u32,
-    used: &mut u32,
+    counters: Counters,
     kind: u32,
     bytes: &[u8],
-    id: &mut u32,
-) -> u32
+) -> PutNext
     requires { ⌜ length (now numbers) ≡ handed 262204 1 (length (now table)) ⌝ }
-    ensures { λ r. ⌜ put-result r (now (id .exit)) (dict (now (table .exit)) (now (arena .exit)) (now (terms .exit)) (now (used .exit))) ≡ put-bytes-give (dict (now (table .entry)) (now (arena .entry)) (now (terms .entry)) (now (used .entry))) (term kind (now (bytes .entry))) ⌝ }
+    ensures { λ r. ⌜ put-left r (now (table .exit)) (now (arena .exit)) ≡ put-bytes-give (contents (now (table .entry)) (now (arena .entry)) counters) (term kind (now (bytes .entry))) ⌝ }
 {
     read_numbers(&*table, &mut *numbers);
-    let counters = Counters {
-        terms: *terms,
-        used: *used,
-    };
-    let next = put_by_value(&mut *numbers, &mut *arena, counters, kind, bytes);
-    write_back(next.number, &*numbers, &mut *table);
-    *terms = next.counters.terms;
-    *used = next.counters.used;
-    *id = next.id.0;
-    next.number
+    let next = put_by_value(&mut *numbers, arena, counters, kind, bytes);
+    write_back(next.number, &*numbers, table);
+    next
 }
 
 // Put, with numbers that suffice for every table.
@@ -84,26 +63,17 @@ pub fn put_in(
     numbers: &mut [u32],
     table: &mut [u8],
     arena: &mut [u8],
-    terms: &mut u32,
-    used: &mut u32,
+    terms: u32,
+    used: u32,
     kind: u32,
     bytes: &[u8],
-    id: &mut u32,
-) -> u32
+) -> PutNext
     requires { ⌜ 262204 ≤ length (now numbers) ⌝ }
-    ensures { λ r. ⌜ put-result r (now (id .exit)) (dict (now (table .exit)) (now (arena .exit)) (now (terms .exit)) (now (used .exit))) ≡ put-bytes-give (dict (now (table .entry)) (now (arena .entry)) (now (terms .entry)) (now (used .entry))) (term kind (now (bytes .entry))) ⌝ }
+    ensures { λ r. ⌜ put-left r (now (table .exit)) (now (arena .exit)) ≡ put-bytes-give (dict (now (table .entry)) (now (arena .entry)) terms used) (term kind (now (bytes .entry))) ⌝ }
 {
+    let counters = Counters { terms, used };
     let n = how_many(table.len(), 262204, 1);
-    put_on(
-        &mut numbers[..n],
-        table,
-        arena,
-        terms,
-        used,
-        kind,
-        bytes,
-        id,
-    )
+    put_on(&mut numbers[..n], table, arena, counters, kind, bytes)
 }
 
 // Where a term's bytes lie in the arena, with its kind and the refusal's number.
@@ -161,18 +131,11 @@ pub fn lookup_in(
     terms: u32,
     used: u32,
     id: u32,
-    kind: &mut u32,
-    begin: &mut u64,
-    len: &mut u64,
-) -> u32
+) -> Place
     requires { ⌜ 262204 ≤ length (now numbers) ⌝ }
-    ensures { λ r. ⌜ Places (read-dict (dict (now (table .entry)) (now (arena .entry)) terms used)) id (place-answer r (now (kind .exit)) (now (begin .exit)) (now (len .exit))) ⌝ }
+    ensures { λ r. ⌜ Places (read-dict (dict (now (table .entry)) (now (arena .entry)) terms used)) id (placed r) ⌝ }
 {
-    let n = how_many(table.len(), 262204, 1);
     let counters = Counters { terms, used };
-    let place = lookup_on(&mut numbers[..n], table, arena, counters, id);
-    *kind = place.kind;
-    *begin = place.begin as u64;
-    *len = place.len as u64;
-    place.number
+    let n = how_many(table.len(), 262204, 1);
+    lookup_on(&mut numbers[..n], table, arena, counters, id)
 }

@@ -41,7 +41,10 @@ pub extern "C" fn tablestork_start(
     ensures { λ r. ⌜ start-result r (dict (now (table .exit)) (now (arena .exit)) (now (terms .exit)) (now (used .exit))) ≡ start-bytes-give (now (table .entry)) (now (arena .entry)) ⌝ }
 {
     let mut numbers = [0u32; TABLE];
-    start_in(&mut numbers, table, arena, terms, used)
+    let started = start_in(&mut numbers, table, arena);
+    *terms = started.counters.terms;
+    *used = started.counters.used;
+    started.number
 }
 
 // Puts a term: refusal 1, 10, 11, 7 or 0. The id is written, and the counters change with the table and the arena.
@@ -58,7 +61,11 @@ pub extern "C" fn tablestork_put(
     ensures { λ r. ⌜ put-result r (now (id .exit)) (dict (now (table .exit)) (now (arena .exit)) (now (terms .exit)) (now (used .exit))) ≡ put-bytes-give (dict (now (table .entry)) (now (arena .entry)) (now (terms .entry)) (now (used .entry))) (term kind (now (bytes .entry))) ⌝ }
 {
     let mut numbers = [0u32; TABLE];
-    put_in(&mut numbers, table, arena, terms, used, kind, bytes, id)
+    let next = put_in(&mut numbers, table, arena, *terms, *used, kind, bytes);
+    *terms = next.counters.terms;
+    *used = next.counters.used;
+    *id = next.id.0;
+    next.number
 }
 
 // Looks a term up: refusal 1, 12 or 0. The kind, and the place and the length of the term's bytes in the arena are written.
@@ -76,17 +83,11 @@ pub extern "C" fn tablestork_lookup(
     ensures { λ r. ⌜ Places (read-dict (dict (now (table .entry)) (now (arena .entry)) terms used)) id (place-answer r (now (kind .exit)) (now (begin .exit)) (now (len .exit))) ⌝ }
 {
     let mut numbers = [0u32; TABLE];
-    lookup_in(
-        &mut numbers,
-        table,
-        arena,
-        terms,
-        used,
-        id,
-        kind,
-        begin,
-        len,
-    )
+    let place = lookup_in(&mut numbers, table, arena, terms, used, id);
+    *kind = place.kind;
+    *begin = place.begin as u64;
+    *len = place.len as u64;
+    place.number
 }
 
 // Runs: refusal 1 to 9 or 0. The triple count and the five counts are written.
@@ -110,7 +111,7 @@ pub extern "C" fn tablestork_run(
     let mut s = [0u32; STORE];
     let mut f = [0u32; FINDINGS];
     let mut w = [0u32; WORK];
-    run_in(
+    let next = run_in(
         &mut t,
         &mut l,
         &mut s,
@@ -118,13 +119,17 @@ pub extern "C" fn tablestork_run(
         &mut w,
         table,
         arena,
-        terms,
-        used,
+        *terms,
+        *used,
         load,
         store,
         findings,
         work,
-        triples,
-        counts,
-    )
+    );
+    *terms = next.counters.terms;
+    *used = next.counters.used;
+    *triples = next.answer.count;
+    let five = next.answer.counts;
+    *counts = five;
+    next.answer.number
 }

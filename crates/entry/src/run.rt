@@ -4,11 +4,37 @@ use crate::numbers::how_many;
 use crate::numbers::read_numbers;
 use crate::numbers::write_back;
 use index::Counters;
+use reasoner::RunNext;
 use reasoner::run;
 ghost use mathlib.Core.Path.{_≡_};
+ghost use lib.Dec.{T};
 ghost use Rattle.term_layout.specs.Layout.{dict};
+ghost use Rattle.term_layout.specs.Values.{contents};
 ghost use Rattle.reasoner.specs.Run.{lent};
-ghost use Rattle.entry.specs.Calls.{run-bytes-give, run-result, Handed-on, Enough};
+ghost use Rattle.reasoner.specs.Values.{run-left};
+ghost use Rattle.entry.specs.Bytes.{changes, left-bytes, cleared};
+ghost use Rattle.entry.specs.Calls.{run-bytes-give, Handed-on, Enough, Roomy};
+
+// Writes the numbers that a run left back into their buffers, and zeros the list work buffer, unless the run's answer says that it
+// changed none.
+fn write_all(
+    answer: u32,
+    t: &[u32],
+    s: &[u32],
+    f: &[u32],
+    table: &mut [u8],
+    store: &mut [u8],
+    findings: &mut [u8],
+    work: &mut [u8],
+)
+    requires { ⌜ (T (changes answer) → Roomy (now t) (now s) (now f) (now table) (now store) (now findings)) ⌝ }
+    ensures { λ _. ⌜ (now (table .exit) ≡ left-bytes answer (now (table .entry)) (now (t .entry))) × (now (store .exit) ≡ left-bytes answer (now (store .entry)) (now (s .entry))) × (now (findings .exit) ≡ left-bytes answer (now (findings .entry)) (now (f .entry))) × (now (work .exit) ≡ cleared answer (now (work .entry))) ⌝ }
+{
+    write_back(answer, t, table);
+    write_back(answer, s, store);
+    write_back(answer, f, findings);
+    clear_back(answer, work);
+}
 
 // Run, with as many numbers as it is handed. Of store, findings and list work buffer only the lengths count: no run reads them.
 fn run_on(
@@ -19,44 +45,29 @@ fn run_on(
     w: &mut [u32],
     table: &mut [u8],
     arena: &mut [u8],
-    terms: &mut u32,
-    used: &mut u32,
+    counters: Counters,
     load: &[u8],
     store: &mut [u8],
     findings: &mut [u8],
     work: &mut [u8],
-    triples: &mut u32,
-    counts: &mut [u32; 5],
-) -> u32
+) -> RunNext
     requires { ⌜ Handed-on (now t) (now l) (now s) (now f) (now w) (now table) (lent (now load) (now store) (now findings) (now work)) ⌝ }
-    ensures { λ r. ⌜ run-result r (now (triples .exit)) (now (counts .exit)) (now (store .exit)) (now (findings .exit)) (now (work .exit)) (dict (now (table .exit)) (now (arena .exit)) (now (terms .exit)) (now (used .exit))) ≡ run-bytes-give (dict (now (table .entry)) (now (arena .entry)) (now (terms .entry)) (now (used .entry))) (lent (now (load .entry)) (now (store .entry)) (now (findings .entry)) (now (work .entry))) ⌝ }
+    ensures { λ r. ⌜ run-left r (now (table .exit)) (now (arena .exit)) (now (store .exit)) (now (findings .exit)) (now (work .exit)) ≡ run-bytes-give (contents (now (table .entry)) (now (arena .entry)) counters) (lent (now (load .entry)) (now (store .entry)) (now (findings .entry)) (now (work .entry))) ⌝ }
 {
     read_numbers(&*table, &mut *t);
     read_numbers(load, &mut *l);
-    let counters = Counters {
-        terms: *terms,
-        used: *used,
-    };
-    let next = run(
-        &mut *t,
-        &mut *arena,
-        counters,
-        &*l,
-        &mut *s,
-        &mut *f,
-        &mut *w,
+    let next = run(&mut *t, arena, counters, &*l, &mut *s, &mut *f, w);
+    write_all(
+        next.answer.number,
+        &*t,
+        &*s,
+        &*f,
+        table,
+        store,
+        findings,
+        work,
     );
-    let number = next.answer.number;
-    write_back(number, &*t, &mut *table);
-    write_back(number, &*s, &mut *store);
-    write_back(number, &*f, &mut *findings);
-    clear_back(number, &mut *work);
-    *terms = next.counters.terms;
-    *used = next.counters.used;
-    *triples = next.answer.count;
-    let five = next.answer.counts;
-    *counts = five;
-    number
+    next
 }
 
 // Run, with numbers that suffice for all buffers.
@@ -68,18 +79,17 @@ pub fn run_in(
     w: &mut [u32],
     table: &mut [u8],
     arena: &mut [u8],
-    terms: &mut u32,
-    used: &mut u32,
+    terms: u32,
+    used: u32,
     load: &[u8],
     store: &mut [u8],
     findings: &mut [u8],
     work: &mut [u8],
-    triples: &mut u32,
-    counts: &mut [u32; 5],
-) -> u32
+) -> RunNext
     requires { ⌜ Enough (now t) (now l) (now s) (now f) (now w) ⌝ }
-    ensures { λ r. ⌜ run-result r (now (triples .exit)) (now (counts .exit)) (now (store .exit)) (now (findings .exit)) (now (work .exit)) (dict (now (table .exit)) (now (arena .exit)) (now (terms .exit)) (now (used .exit))) ≡ run-bytes-give (dict (now (table .entry)) (now (arena .entry)) (now (terms .entry)) (now (used .entry))) (lent (now (load .entry)) (now (store .entry)) (now (findings .entry)) (now (work .entry))) ⌝ }
+    ensures { λ r. ⌜ run-left r (now (table .exit)) (now (arena .exit)) (now (store .exit)) (now (findings .exit)) (now (work .exit)) ≡ run-bytes-give (dict (now (table .entry)) (now (arena .entry)) terms used) (lent (now (load .entry)) (now (store .entry)) (now (findings .entry)) (now (work .entry))) ⌝ }
 {
+    let counters = Counters { terms, used };
     let k1 = how_many(table.len(), 262204, 1);
     let k2 = how_many(load.len(), 49152, 49155 + load.len() / 4 % 3);
     let k3 = how_many(store.len(), 196605, 1);
@@ -93,13 +103,10 @@ pub fn run_in(
         &mut w[..k5],
         table,
         arena,
-        terms,
-        used,
+        counters,
         load,
         store,
         findings,
         work,
-        triples,
-        counts,
     )
 }
