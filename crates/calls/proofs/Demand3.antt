@@ -20,7 +20,7 @@ use Rattle.term_layout.specs.Terms.{Term, start-terms}
 use Rattle.term_layout.specs.Layout.{decode}
 use Rattle.term_layout.specs.Calls.{start-gives}
 use Rattle.term_layout.proofs.Decoding.{decode-layout}
-use Rattle.reasoner.specs.Run.{Lent, Run-answer, shown, containers, closed}
+use Rattle.loads.specs.Shown.{Lent, Run-answer, shown, containers, closed}
 use Rattle.calls.specs.Calls.{Call, run-on, run-gave, event, List-left, calls-give, events-of, terms-after}
 use Rattle.calls.specs.Demand3.{answer, found, Agree, Exact, Demand-3}
 use Rattle.calls.proofs.Reckoning.{start-reckoned}

@@ -8,7 +8,8 @@ use Prim.Native.Nat.{ℕ, zero, suc, _/_, _≤_, _<_}
 use native.Mathlib.Omega.{arith}
 use lib.Dec.{T, ltb, eqb, ltb→lt}
 use lib.ListN.{length, getD, length-append, List·getD-append}
-use Rattle.reasoner.specs.Run.{Lent, Run-answer, shown, Stop, first-met, run-stops, containers, Run-reckoned, closed, run-brought, run-passed, reckon-run}
+use Rattle.loads.specs.Shown.{Lent, Run-answer, shown, containers, closed}
+use Rattle.reasoner.specs.Run.{Stop, first-met, run-stops, Run-reckoned, run-brought, run-passed, reckon-run}
 use Rattle.term_layout.specs.Terms.{Term, no-term, property-term, membership-term, member-term, run-terms}
 use Rattle.term_layout.specs.Dictionary.{same-term, place-from, id-of, kind-known, short, roomy, put-answer, put-at, reckon-put, Brought, full, brought, if-zero, bring}
 use Rattle.term_layout.proofs.Equality.{same-term-refl}

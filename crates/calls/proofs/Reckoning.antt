@@ -4,7 +4,8 @@ use mathlib.Core.List.{List, [], _∷_}
 use Prim.Native.Nat.{ℕ, zero, suc}
 use native.Mathlib.Omega.{arith}
 use lib.ListN.{length}
-use Rattle.reasoner.specs.Run.{Lent, unchanged, first-met, run-stops, run-brought, run-passed, reckon-run, Run-result, run-laid, run-gives}
+use Rattle.loads.specs.Shown.{Lent}
+use Rattle.reasoner.specs.Run.{unchanged, first-met, run-stops, run-brought, run-passed, reckon-run, Run-result, run-laid, run-gives}
 use Rattle.term_layout.specs.Terms.{Term, start-terms, run-terms}
 use Rattle.term_layout.specs.Layout.{Dict, layout}
 use Rattle.term_layout.specs.Dictionary.{reckon-put, Brought, full, brought, if-zero, bring, Lookup-answer, lookup-answer, reckon-lookup}

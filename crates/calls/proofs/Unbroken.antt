@@ -8,7 +8,8 @@ use Prim.Native.Nat.{ℕ, zero, suc, _<_}
 use native.Mathlib.Omega.{arith}
 use lib.Dec.{T, ltb, ltb→lt}
 use lib.ListN.{length}
-use Rattle.reasoner.specs.Run.{Lent, shown, Stop, first-met, run-stops, closed, run-brought, run-passed, reckon-run}
+use Rattle.loads.specs.Shown.{Lent, shown, closed}
+use Rattle.reasoner.specs.Run.{Stop, first-met, run-stops, run-brought, run-passed, reckon-run}
 use Rattle.term_layout.specs.Terms.{Term, run-terms}
 use Rattle.term_layout.specs.Dictionary.{place-from, kind-known, short, roomy, put-answer, put-at, reckon-put, Brought, full, brought, bring, Lookup-answer, lookup-answer, term-of, reckon-lookup}
 use Rattle.common.specs.Triples.{In, if}

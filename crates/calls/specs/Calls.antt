@@ -8,7 +8,8 @@ use Rattle.term_layout.specs.Terms.{Term}
 use Rattle.term_layout.specs.Layout.{Dict}
 use Rattle.term_layout.specs.Dictionary.{Lookup-answer, reckon-put, reckon-lookup}
 use Rattle.term_layout.specs.Calls.{put-gives, lookup-gives}
-use Rattle.reasoner.specs.Run.{Lent, Run-answer, reckon-run, run-gives}
+use Rattle.loads.specs.Shown.{Lent, Run-answer}
+use Rattle.reasoner.specs.Run.{reckon-run, run-gives}
 
 -- a call, with what it is lent besides the dictionary
 pub data Call : Type 0 where

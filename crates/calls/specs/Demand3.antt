@@ -16,7 +16,7 @@ use Rattle.common.specs.Batch.{Same, Conditions}
 use Rattle.term_layout.specs.Terms.{start-terms}
 use Rattle.term_layout.specs.Layout.{layout, decode}
 use Rattle.term_layout.specs.Calls.{start-gives}
-use Rattle.reasoner.specs.Run.{Lent, Run-answer, containers}
+use Rattle.loads.specs.Shown.{Lent, Run-answer, containers}
 use Rattle.calls.specs.Calls.{Call, run-on, run-gave, Event, event, List-left, calls-give, events-of, terms-after, number-of}
 
 -- the triples that a run's store holds, by its triple count, and the records of its findings, by its five counts

@@ -16,9 +16,10 @@ use Rattle.term_layout.specs.Layout.{Dict, decode}
 use Rattle.term_layout.specs.Dictionary.{valid}
 use Rattle.term_layout.specs.Calls.{Start-result, start-gives}
 use Rattle.term_layout.specs.Terms.{Term}
-use Rattle.reasoner.specs.Run.{Lent, lent, Run-answer, Run-result, unchanged, shown, containers, run-laid, reckon-run, run-gives}
+use Rattle.loads.specs.Shown.{Lent, lent, Run-answer, shown, containers}
+use Rattle.reasoner.specs.Run.{Run-result, unchanged, run-laid, reckon-run, run-gives}
 use Rattle.reasoner.specs.Values.{run-left}
-use Rattle.reasoner.specs.declared.values.RunAnswer.{RunAnswer}
+use Rattle.loads.specs.declared.values.RunAnswer.{RunAnswer}
 use Rattle.reasoner.specs.declared.values.RunNext.{RunNext}
 use Rattle.calls.proofs.Growth.{AcceptedRun, run-accepted}
 use Rattle.closer_input.specs.Input.{bad-line, input, parse}

@@ -2,8 +2,8 @@
 use mathlib.Core.Path.{_≡_}
 use mathlib.Core.List.{List}
 use Prim.Native.Nat.{ℕ}
-use Rattle.reasoner.specs.Run.{Run-answer}
-use Rattle.reasoner.specs.declared.values.RunAnswer.{RunAnswer}
+use Rattle.loads.specs.Shown.{Run-answer}
+use Rattle.loads.specs.declared.values.RunAnswer.{RunAnswer}
 
 -- the answer of a run, with store and findings as they are left
 pub record Ran (a : Run-answer) (r : RunAnswer) (store findings : List ℕ) : Type 0 where

@@ -8,7 +8,8 @@ use Rattle.common.specs.Closure.{total}
 use Rattle.term_layout.specs.Terms.{term}
 use Rattle.term_layout.specs.Layout.{Dict}
 use Rattle.term_layout.specs.Calls.{start-gives, put-gives}
-use Rattle.reasoner.specs.Run.{Run-answer, lent, run-gives}
+use Rattle.loads.specs.Shown.{Run-answer, lent}
+use Rattle.reasoner.specs.Run.{run-gives}
 use Rattle.closer_input.specs.Input.{Parsed, bad-line, input, parse}
 use Rattle.closer_input.specs.Output.{answer, refusal, bad-line-text, name}
 

@@ -13,7 +13,7 @@ use mir.Val.{Fits}
 use borrow.Author.Tests.{eq-eqb, ne-eqb, eqb-true, eqb-false, leb-true, leb-false}
 use Rattle.common.specs.Triples.{if}
 use Rattle.entry.specs.Bytes.{numbers-of, read-buffer, handed}
-use Rattle.reasoner.specs.Run.{Lent}
+use Rattle.loads.specs.Shown.{Lent}
 use Rattle.entry.specs.Calls.{Handed-on, Enough}
 use Rattle.entry.proofs.Coding.{handed-ragged, handed-all, handed-more}
 

@@ -10,7 +10,8 @@ use lib.ListN.{length}
 use borrow.Author.Tests.{eq-eqb, ne-eqb, lt-ltb, le-ltb, eqb-true, eqb-false}
 use Rattle.common.specs.Triples.{if}
 use Rattle.common.specs.Table.{all}
-use Rattle.reasoner.specs.Run.{Lent, lent, Stop, stop, first-met, run-stops}
+use Rattle.loads.specs.Shown.{Lent, lent}
+use Rattle.reasoner.specs.Run.{Stop, stop, first-met, run-stops}
 use Rattle.reasoner.proofs.Refusing.{Unmet, unmet-all, not-not}
 use Rattle.entry.specs.Bytes.{numbers-of, read-buffer, changes, handed}
 use Rattle.entry.specs.Calls.{read-lent, Handed-on}

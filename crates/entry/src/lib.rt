@@ -12,7 +12,7 @@ ghost use mathlib.Core.Path.{_≡_};
 ghost use Rattle.term_layout.specs.Terms.{term};
 ghost use Rattle.term_layout.specs.Layout.{dict};
 ghost use Rattle.term_layout.specs.Calls.{start-result, put-result};
-ghost use Rattle.reasoner.specs.Run.{lent};
+ghost use Rattle.loads.specs.Shown.{lent};
 ghost use Rattle.entry.specs.Calls.{read-dict, start-bytes-give, put-bytes-give, place-answer, Places, run-bytes-give, run-result};
 
 // The numbers of the longest table: 64 chain heads, and four for each of 65,535 entries.

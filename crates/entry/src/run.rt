@@ -10,7 +10,7 @@ ghost use mathlib.Core.Path.{_≡_};
 ghost use lib.Dec.{T};
 ghost use Rattle.term_layout.specs.Layout.{dict};
 ghost use Rattle.term_layout.specs.Values.{contents};
-ghost use Rattle.reasoner.specs.Run.{lent};
+ghost use Rattle.loads.specs.Shown.{lent};
 ghost use Rattle.reasoner.specs.Values.{run-left};
 ghost use Rattle.entry.specs.Bytes.{changes, left-bytes, cleared};
 ghost use Rattle.entry.specs.Calls.{run-bytes-give, Handed-on, Enough, Roomy};

@@ -24,9 +24,10 @@ use Rattle.term_layout.proofs.Choice.{if-yes, if-no}
 use Rattle.term_layout.proofs.Decoding.{decode-layout}
 use Rattle.term_layout.proofs.Holding.{Holds, valid→, valid-layout}
 use Rattle.term_entries.proofs.Reading.{held, count}
-use Rattle.reasoner.specs.declared.values.RunAnswer.{RunAnswer}
-use Rattle.reasoner.specs.Run.{Lent, Run-answer, unchanged, shown, first-met, run-stops, closed, Run-reckoned, run-brought, run-passed, reckon-run, Run-result, run-laid, run-gives}
-use Rattle.reasoner.specs.Loads.{Termed, Loaded}
+use Rattle.loads.specs.declared.values.RunAnswer.{RunAnswer}
+use Rattle.loads.specs.Shown.{Lent, Run-answer, shown, closed}
+use Rattle.reasoner.specs.Run.{unchanged, first-met, run-stops, Run-reckoned, run-brought, run-passed, reckon-run, Run-result, run-laid, run-gives}
+use Rattle.loads.specs.Loads.{Termed, Loaded}
 use Rattle.reasoner.proofs.Refusing.{Unmet, unmet-all, not-not, all-in}
 use Rattle.reasoner.proofs.Bringing.{grown-length, bring-grows, bring-holds, bring-few, bring-has, place-below}
 

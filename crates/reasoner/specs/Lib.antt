@@ -1,3 +1,2 @@
 pub mod Run
 pub mod Values
-pub mod Loads

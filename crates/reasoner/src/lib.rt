@@ -1,18 +1,18 @@
 // The run of document 01: from a load to the answer and its findings, for all inputs.
-mod loads; // loads.rt: the closing of a load, and its answer and findings
 pub mod refusals; // refusals.rt: what a run refuses before it puts a term
-mod values; // values.rt: what a run answers
+mod values; // values.rt: what a run answers, with the counters
 
-use crate::loads::run_load;
 use index::Counters;
 use index::is_valid;
+pub use loads::RunAnswer;
+use loads::run_load;
 pub use refusals::refusal;
 use run_terms::put_run_terms;
-pub use values::RunAnswer;
 pub use values::RunNext;
 ghost use mathlib.Core.Path.{_≡_};
 ghost use Rattle.term_layout.specs.Values.{contents};
-ghost use Rattle.reasoner.specs.Run.{five-zeros, lent, run-gives};
+ghost use Rattle.loads.specs.Shown.{five-zeros, lent};
+ghost use Rattle.reasoner.specs.Run.{run-gives};
 ghost use Rattle.reasoner.specs.Values.{run-left};
 
 // A refusal that changes nothing.

@@ -6,7 +6,8 @@ use Rattle.term_layout.specs.Values.{contents}
 use Rattle.run_terms.specs.Calls.{run-terms-left}
 use Rattle.term_layout.proofs.Choice.{told-true, told-false}
 use Rattle.reasoner.specs.declared.values.RunNext.{RunNext}
-use Rattle.reasoner.specs.Run.{Run-answer, Run-result, lent, unchanged}
+use Rattle.loads.specs.Shown.{Run-answer, lent}
+use Rattle.reasoner.specs.Run.{Run-result, unchanged}
 use Rattle.reasoner.specs.Values.{run-left}
 use Rattle.reasoner.proofs.Running.{run-broken, run-refused, run-refused-7, held-then, run-done, termed, loaded, buffer, same-contents, told, told-yes, told-no}
 use borrow.Author.Needs.{needs}
@@ -16,7 +17,7 @@ use Rattle.reasoner.proofs.run.Reads as reads
 use Rattle.reasoner.proofs.run.Lts as lts
 use Rattle.run_terms.proofs.put_run_terms.Reads as put-run-terms-reads
 use Rattle.valid.proofs.is_valid.Reads as is-valid-reads
-use Rattle.reasoner.proofs.loads.run_load.Reads as run-load-reads
+use Rattle.loads.proofs.run_load.Reads as run-load-reads
 use Rattle.reasoner.proofs.refusals.refusal.Reads as refusal-reads
 use Rattle.reasoner.proofs.refused.Reads as refused-reads
 

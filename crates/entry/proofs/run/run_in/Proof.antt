@@ -1,6 +1,6 @@
 use Prim.Native.Nat.{_+_, _/_, _%_}
 use lib.ListN.{length}
-use Rattle.reasoner.specs.Run.{lent}
+use Rattle.loads.specs.Shown.{lent}
 use Rattle.entry.proofs.Handing.{table-enough, load-enough, store-enough, findings-enough, work-enough, few-more, prefix-fits, prefix-count, all-handed}
 use Rattle.entry.proofs.run.run_in.Statement.{statement}
 use Rattle.entry.proofs.run.run_in.Tie as tie

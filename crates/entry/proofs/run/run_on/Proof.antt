@@ -1,6 +1,6 @@
 use mathlib.Core.Path.{ap, _∙_}
 use Prim.Native.Nat.{ℕ, _*_}
-use Rattle.reasoner.specs.Run.{lent}
+use Rattle.loads.specs.Shown.{lent}
 use Rattle.entry.proofs.Handing.{handed-read}
 use Rattle.entry.proofs.Runs.{rooms, run-done}
 use Rattle.entry.proofs.run.run_on.Statement.{statement}

@@ -3,7 +3,8 @@ use mathlib.Core.Path.{refl, sym, ap, _∙_}
 use mathlib.Core.Bool.{not}
 use lib.ListN.{drop}
 use borrow.Author.Tests.{eq-eqb, ne-eqb, lt-ltb, le-ltb, not-true, not-false}
-use Rattle.reasoner.specs.Run.{run-stops, lent}
+use Rattle.loads.specs.Shown.{lent}
+use Rattle.reasoner.specs.Run.{run-stops}
 use Rattle.reasoner.proofs.Refusing.{met, unmet}
 use borrow.Author.Needs.{needs}
 use Rattle.reasoner.proofs.refusals.refusal.Statement.{statement}

@@ -29,9 +29,9 @@ use Rattle.start_rows.proofs.Starting.{rows-triples}
 use Rattle.rule_table.specs.Entries.{Entry, TableOfRules}
 use Rattle.disjoint_sets.specs.Lists.{Ready, Made, members-at, lists-at}
 use Rattle.closing.specs.Closing.{Closable}
-use Rattle.reasoner.specs.Run.{containers}
-use Rattle.reasoner.specs.Loads.{Termed, Loaded, Unused}
-use Rattle.reasoner.proofs.Loading.{rows-start}
+use Rattle.loads.specs.Shown.{containers}
+use Rattle.loads.specs.Loads.{Termed, Loaded, Unused}
+use Rattle.loads.proofs.Loading.{rows-start}
 
 module _ {table arena load store work : List ℕ} {r : RunTerms} (A : Termed table arena r) (L : Loaded load store work (r .counters .terms)) where
   abbrev terms : ℕ

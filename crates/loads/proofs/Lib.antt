@@ -1,0 +1,4 @@
+pub mod Outcome
+pub mod Loading
+pub mod Answering
+pub mod Terming
