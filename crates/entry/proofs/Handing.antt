@@ -12,10 +12,10 @@ use mir.Syntax.{w64}
 use mir.Val.{Fits}
 use borrow.Author.Tests.{eq-eqb, ne-eqb, eqb-true, eqb-false, leb-true, leb-false}
 use Rattle.common.specs.Triples.{if}
-use Rattle.entry.specs.Bytes.{numbers-of, read-buffer, handed}
+use Rattle.byte_numbers.specs.Bytes.{numbers-of, read-buffer, handed}
 use Rattle.loads.specs.Shown.{Lent}
 use Rattle.entry.specs.Calls.{Handed-on, Enough}
-use Rattle.entry.proofs.Coding.{handed-ragged, handed-all, handed-more}
+use Rattle.byte_numbers.proofs.Coding.{handed-ragged, handed-all, handed-more}
 
 pub length-numbers : (b : List ℕ) → length (numbers-of b) ≡ length b / 4
 unfolding numbers-of

@@ -1,4 +1,3 @@
-pub mod Coding
 pub mod Handing
 pub mod Tables
 pub mod Refusals

@@ -11,7 +11,7 @@ use Rattle.term_layout.specs.Dictionary.{if-zero, Lookup-answer, lookup-answer,
 use Rattle.term_layout.specs.Calls.{lookup-gives}
 use Rattle.term_entries.specs.Entries.{start-of, length-of, kind-of}
 use Rattle.index.proofs.Looking.{look-12, look-known, look-1}
-use Rattle.entry.specs.Bytes.{numbers-of, read-buffer}
+use Rattle.byte_numbers.specs.Bytes.{numbers-of, read-buffer}
 use Rattle.entry.specs.Calls.{Place-answer, place-answer, place-gives, Places}
 use Rattle.entry.proofs.Handing.{Handed}
 use Rattle.entry.proofs.Tables.{dict-alike}

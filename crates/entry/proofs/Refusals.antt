@@ -13,7 +13,7 @@ use Rattle.common.specs.Table.{all}
 use Rattle.loads.specs.Shown.{Lent, lent}
 use Rattle.reasoner.specs.Run.{Stop, stop, first-met, run-stops}
 use Rattle.reasoner.proofs.Refusing.{Unmet, unmet-all, not-not}
-use Rattle.entry.specs.Bytes.{numbers-of, read-buffer, changes, handed}
+use Rattle.byte_numbers.specs.Bytes.{numbers-of, read-buffer, changes, handed}
 use Rattle.entry.specs.Calls.{read-lent, Handed-on}
 use Rattle.entry.proofs.Handing.{Handed, whole, ragged, long, by-length}
 

@@ -19,9 +19,9 @@ use Rattle.reasoner.specs.Run.{unchanged, first-met, run-stops, Run-reckoned, r
 use Rattle.reasoner.specs.Values.{run-left}
 use Rattle.reasoner.specs.declared.values.RunNext.{RunNext}
 use Rattle.reasoner.proofs.Running.{run-broken}
-use Rattle.entry.specs.Bytes.{numbers-of, bytes-of, read-buffer, changes, left-bytes, cleared}
+use Rattle.byte_numbers.specs.Bytes.{numbers-of, bytes-of, read-buffer, changes, left-bytes, cleared}
 use Rattle.entry.specs.Calls.{left-dict, read-lent, run-in-bytes, run-bytes-give, run-result, Handed-on, Roomy}
-use Rattle.entry.proofs.Coding.{left-written, left-alone, cleared-yes, cleared-no, bytes-zeros}
+use Rattle.byte_numbers.proofs.Coding.{left-written, left-alone, cleared-yes, cleared-no, bytes-zeros}
 use Rattle.entry.proofs.Handing.{Handed, by-length}
 use Rattle.entry.proofs.Tables.{same-left, quiet-1, dict-alike, dict-room}
 use Rattle.entry.proofs.Refusals.{stops-quiet, same-refusal, Whole, not-refused}

@@ -18,9 +18,9 @@ use Rattle.index.specs.declared.values.PutNext.{PutNext}
 use Rattle.term_layout.proofs.Choice.{is-false, told-false, decide-bool}
 use Rattle.term_layout.proofs.Holding.{valid→, sized→}
 use Rattle.term_layout.proofs.Reachable.{refusal-4, refusal-none, start-accepts, start-refuses, put-broken}
-use Rattle.entry.specs.Bytes.{numbers-of, read-buffer, changes, left-bytes}
+use Rattle.byte_numbers.specs.Bytes.{numbers-of, read-buffer, changes, left-bytes}
 use Rattle.entry.specs.Calls.{start-in-bytes, start-bytes-give, put-in-bytes, put-bytes-give}
-use Rattle.entry.proofs.Coding.{left-alone}
+use Rattle.byte_numbers.proofs.Coding.{left-alone}
 use Rattle.entry.proofs.Handing.{Handed, whole, ragged, long}
 
 -- a call that changes no buffer leaves the bytes, whatever numbers it worked on

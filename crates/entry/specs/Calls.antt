@@ -12,7 +12,7 @@ use Rattle.term_entries.specs.Entries.{start-of}
 use Rattle.term_layout.specs.Calls.{Start-result, start-result, start-gives, Put-result, put-result, put-gives, lookup-gives}
 use Rattle.loads.specs.Shown.{Lent, lent}
 use Rattle.reasoner.specs.Run.{Run-result, run-gives}
-use Rattle.entry.specs.Bytes.{read-buffer, left-bytes, handed}
+use Rattle.byte_numbers.specs.Bytes.{read-buffer, left-bytes, handed}
 
 -- a dictionary whose table is bytes, as numbers
 abbrev pub read-dict : Dict → Dict

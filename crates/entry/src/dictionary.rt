@@ -1,7 +1,7 @@
 // Start, put and lookup, with numbers lent for the table.
-use crate::numbers::how_many;
-use crate::numbers::read_numbers;
-use crate::numbers::write_back;
+use byte_numbers::how_many;
+use byte_numbers::read_numbers;
+use byte_numbers::write_back;
 use index::Counters;
 use index::PutNext;
 use index::Started;
@@ -17,7 +17,7 @@ ghost use Rattle.term_layout.specs.Layout.{dict};
 ghost use Rattle.term_layout.specs.Dictionary.{valid};
 ghost use Rattle.term_layout.specs.Values.{contents};
 ghost use Rattle.index.specs.Values.{start-left, put-left};
-ghost use Rattle.entry.specs.Bytes.{handed};
+ghost use Rattle.byte_numbers.specs.Bytes.{handed};
 ghost use Rattle.entry.specs.Calls.{read-dict, start-bytes-give, put-bytes-give, Places};
 ghost use Rattle.entry.specs.Values.{placed};
 

@@ -1,7 +1,6 @@
 // The C entry points: start, put, lookup and run over byte slices. Ids are little-endian. Each entry point owns the numbers that the
 // calls on numbers work on, and lends them to one function, which knows them as slices only.
 mod dictionary; // dictionary.rt: start, put and lookup
-mod numbers; // numbers.rt: buffers of bytes as numbers
 mod run; // run.rt: run
 
 use crate::dictionary::lookup_in;

@@ -1,8 +1,8 @@
 // Run, with numbers lent for all its buffers but the arena.
-use crate::numbers::clear_back;
-use crate::numbers::how_many;
-use crate::numbers::read_numbers;
-use crate::numbers::write_back;
+use byte_numbers::clear_back;
+use byte_numbers::how_many;
+use byte_numbers::read_numbers;
+use byte_numbers::write_back;
 use index::Counters;
 use reasoner::RunNext;
 use reasoner::run;
@@ -12,7 +12,7 @@ ghost use Rattle.term_layout.specs.Layout.{dict};
 ghost use Rattle.term_layout.specs.Values.{contents};
 ghost use Rattle.loads.specs.Shown.{lent};
 ghost use Rattle.reasoner.specs.Values.{run-left};
-ghost use Rattle.entry.specs.Bytes.{changes, left-bytes, cleared};
+ghost use Rattle.byte_numbers.specs.Bytes.{changes, left-bytes, cleared};
 ghost use Rattle.entry.specs.Calls.{run-bytes-give, Handed-on, Enough, Roomy};
 
 // Writes the numbers that a run left back into their buffers, and zeros the list work buffer, unless the run's answer says that it

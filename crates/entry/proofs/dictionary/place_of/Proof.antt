@@ -1,3 +1,4 @@
+-- `entry::dictionary::place_of` meets its contract. Assumes nothing.
 use native.Mathlib.Omega.{arith}
 use Rattle.term_layout.specs.Values.{contents}
 use Rattle.term_entries.proofs.Reading.{entry-fits}
@@ -5,54 +6,40 @@ use Rattle.entry.proofs.Places.{place-12, place-known}
 use borrow.Author.Needs.{needs}
 use Rattle.entry.proofs.dictionary.place_of.Statement.{statement}
 use Rattle.entry.proofs.dictionary.place_of.Tie as tie
-use Rattle.entry.proofs.dictionary.place_of.Reads as reads
-use Rattle.entry.proofs.dictionary.place_of.Lts as lts
 
--- src/dictionary.rt:123:9
 returns : tie.Need-returns
 returns c = let z = c .before .before in let d = contents (z .args .numbers .now) (z .args .arena .now) (z .args .counters) in place-12 d (z .pre) (z .args .id) (c .if1 .taken)
 
--- src/dictionary.rt:130:19
 mul-at : tie.Need-mul-at
 mul-at c = search needs
 
--- src/dictionary.rt:130:14
 add-at : tie.Need-add-at
 add-at c = search needs
 
--- src/dictionary.rt:133:23
 add-t7 : tie.Need-add-t7
 add-t7 c = search needs
 
--- src/dictionary.rt:133:15
 mul-t8 : tie.Need-mul-t8
 mul-t8 c = search needs
 
--- src/dictionary.rt:133:15
 shared-slice-read-t10 : tie.Need-shared-slice-read-t10
 shared-slice-read-t10 c = let z = c .before .before .before in let d = contents (z .args .numbers .now) (z .args .arena .now) (z .args .counters) in omega (arith, entry-fits d (z .pre) (z .args .id) (c .before .if1 .left) .entry)
 
--- src/dictionary.rt:134:16
 mul-t11 : tie.Need-mul-t11
 mul-t11 c = search needs
 
--- src/dictionary.rt:134:16
 shared-slice-read-t13 : tie.Need-shared-slice-read-t13
 shared-slice-read-t13 c = let z = c .before .before .before .before in let d = contents (z .args .numbers .now) (z .args .arena .now) (z .args .counters) in omega (arith, entry-fits d (z .pre) (z .args .id) (c .before .before .if1 .left) .entry)
 
--- src/dictionary.rt:135:22
 add-t14 : tie.Need-add-t14
 add-t14 c = search needs
 
--- src/dictionary.rt:135:14
 mul-t15 : tie.Need-mul-t15
 mul-t15 c = search needs
 
--- src/dictionary.rt:135:14
 shared-slice-read-t17 : tie.Need-shared-slice-read-t17
 shared-slice-read-t17 c = let z = c .before .before .before .before .before in let d = contents (z .args .numbers .now) (z .args .arena .now) (z .args .counters) in omega (arith, entry-fits d (z .pre) (z .args .id) (c .before .before .before .if1 .left) .entry)
 
--- src/dictionary.rt:118:1
 returns-2 : tie.Need-returns-2
 returns-2 c = let z = c .before .before .before .before .before in let d = contents (z .args .numbers .now) (z .args .arena .now) (z .args .counters) in place-known d (z .pre) (z .args .id) (c .before .before .before .if1 .left)
 

@@ -1,3 +1,4 @@
+-- `entry::dictionary::put_in` meets its contract. Assumes nothing.
 use Rattle.entry.proofs.Handing.{table-enough, prefix-fits, prefix-count, prefix-handed}
 use Rattle.entry.proofs.dictionary.put_in.Statement.{statement}
 use Rattle.entry.proofs.dictionary.put_in.Tie as tie

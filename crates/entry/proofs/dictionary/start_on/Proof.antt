@@ -1,3 +1,4 @@
+-- `entry::dictionary::start_on` meets its contract. Assumes nothing.
 use lib.ListN.{length}
 use Rattle.entry.proofs.Handing.{by-length}
 use Rattle.entry.proofs.Tables.{start-room, started}

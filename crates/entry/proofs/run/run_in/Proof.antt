@@ -1,3 +1,4 @@
+-- `entry::run::run_in` meets its contract. Assumes nothing.
 use Prim.Native.Nat.{_+_, _/_, _%_}
 use lib.ListN.{length}
 use Rattle.loads.specs.Shown.{lent}

@@ -1,3 +1,4 @@
+-- `entry::run::run_on` meets its contract. Assumes nothing.
 use mathlib.Core.Path.{ap, _∙_}
 use Prim.Native.Nat.{ℕ, _*_}
 use Rattle.loads.specs.Shown.{lent}

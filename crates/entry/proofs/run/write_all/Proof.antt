@@ -1,3 +1,4 @@
+-- `entry::run::write_all` meets its contract. Assumes nothing.
 use Rattle.entry.proofs.run.write_all.Statement.{statement}
 use Rattle.entry.proofs.run.write_all.Tie as tie
 

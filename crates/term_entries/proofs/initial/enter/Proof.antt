@@ -6,10 +6,6 @@ use Rattle.term_layout.specs.declared.values.Digest.{Digest}
 use Rattle.term_entries.proofs.Starting.{next-appendable, next-short, next-done}
 use Rattle.term_entries.proofs.initial.enter.Statement.{statement}
 use Rattle.term_entries.proofs.initial.enter.Tie as tie
-use Rattle.term_entries.proofs.initial.enter.Reads as reads
-use Rattle.term_entries.proofs.initial.enter.Lts as lts
-use Rattle.term_entries.proofs.append.append.Reads as append-reads
-use Rattle.term_layout.proofs.hash.digest.Reads as digest-reads
 
 digest-requires : tie.Need-digest-requires
 digest-requires c κs = omega (arith, next-short (c .before .before .before .pre))

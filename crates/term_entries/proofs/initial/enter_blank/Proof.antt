@@ -3,10 +3,6 @@ use borrow.Author.Needs.{needs}
 use Rattle.term_entries.proofs.Starting.{blank-done}
 use Rattle.term_entries.proofs.initial.enter_blank.Statement.{statement}
 use Rattle.term_entries.proofs.initial.enter_blank.Tie as tie
-use Rattle.term_entries.proofs.initial.enter_blank.Reads as reads
-use Rattle.term_entries.proofs.initial.enter_blank.Lts as lts
-use Rattle.term_entries.proofs.append.write_entry.Reads as write-entry-reads
-use Rattle.term_layout.proofs.bytes.copy_at.Reads as copy-at-reads
 
 slice-aggregate-copy-at : tie.Need-slice-aggregate-copy-at
 slice-aggregate-copy-at c = search needs

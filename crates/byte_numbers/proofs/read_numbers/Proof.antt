@@ -1,16 +1,14 @@
-use Rattle.entry.specs.Bytes.{numbers-of, bytes-of}
-use Rattle.entry.proofs.Coding.{numbers-more, numbers-done, bytes-more, bytes-done}
+-- `byte_numbers::read_numbers` meets its contract. Assumes nothing.
+use Rattle.byte_numbers.specs.Bytes.{numbers-of, bytes-of}
+use Rattle.byte_numbers.proofs.Coding.{numbers-more, numbers-done, bytes-more, bytes-done}
 use Prim.Native.Nat.{ℕ, _+_, _*_, _≤_, _<_, _-_}
 use mathlib.Core.Path.{_≡_, sym, ap, _∙_}
 use mathlib.Core.List.{_++_}
 use lib.ListN.{length, drop, take, set, getD, length-set, length-drop}
 use native.Mathlib.Omega.{arith}
 use borrow.Author.Needs.{needs}
-use Rattle.entry.proofs.numbers.read_numbers.Statement.{statement}
-use Rattle.entry.proofs.numbers.read_numbers.Tie as tie
-use Rattle.entry.proofs.numbers.read_numbers.Reads as reads
-use Rattle.entry.proofs.numbers.read_numbers.Lts as lts
-use Rattle.entry.proofs.numbers.number.Reads as number-reads
+use Rattle.byte_numbers.proofs.read_numbers.Statement.{statement}
+use Rattle.byte_numbers.proofs.read_numbers.Tie as tie
 
 abbrev Inv-loop : tie.InvT-loop
 Inv-loop bytes numbers₀ i₀ numbers i =
@@ -19,83 +17,63 @@ Inv-loop bytes numbers₀ i₀ numbers i =
 abbrev μ-loop : tie.MeasureT-loop
 μ-loop bytes numbers₀ i₀ numbers i = length numbers - i
 
--- src/numbers.rt:25:5
 loop-holds : tie.Need-loop-holds Inv-loop μ-loop
 loop-holds c = search needs
 
--- src/numbers.rt:26:18
 mul-at : tie.Need-mul-at Inv-loop μ-loop
 mul-at c = search needs
 
--- src/numbers.rt:27:12
 sub-if1 : tie.Need-sub-if1 Inv-loop μ-loop
 sub-if1 c = search needs
 
--- src/numbers.rt:28:13
 same-length : tie.Need-same-length Inv-loop μ-loop
 same-length c = search needs
 
--- src/numbers.rt:28:13
 returns : tie.Need-returns Inv-loop μ-loop
 returns c = λ h. absurd (omega arith)
 
--- src/numbers.rt:30:29
 shared-slice-read-number : tie.Need-shared-slice-read-number Inv-loop μ-loop
 shared-slice-read-number c = search needs
 
--- src/numbers.rt:30:46
 add-number : tie.Need-add-number Inv-loop μ-loop
 add-number c = search needs
 
--- src/numbers.rt:30:40
 shared-slice-read-number-2 : tie.Need-shared-slice-read-number-2 Inv-loop μ-loop
 shared-slice-read-number-2 c = search needs
 
--- src/numbers.rt:30:61
 add-number-2 : tie.Need-add-number-2 Inv-loop μ-loop
 add-number-2 c = search needs
 
--- src/numbers.rt:30:55
 shared-slice-read-number-3 : tie.Need-shared-slice-read-number-3 Inv-loop μ-loop
 shared-slice-read-number-3 c = search needs
 
--- src/numbers.rt:30:76
 add-number-3 : tie.Need-add-number-3 Inv-loop μ-loop
 add-number-3 c = search needs
 
--- src/numbers.rt:30:70
 shared-slice-read-number-4 : tie.Need-shared-slice-read-number-4 Inv-loop μ-loop
 shared-slice-read-number-4 c = search needs
 
--- src/numbers.rt:30:22
 number-requires : tie.Need-number-requires Inv-loop μ-loop
 number-requires c κs = search needs
 
--- src/numbers.rt:30:9
 mul-numbers : tie.Need-mul-numbers Inv-loop μ-loop
 mul-numbers c = search needs
 
--- src/numbers.rt:30:9
 slice-write-numbers : tie.Need-slice-write-numbers Inv-loop μ-loop
 slice-write-numbers c = search needs
 
--- src/numbers.rt:31:9
 add-i : tie.Need-add-i Inv-loop μ-loop
 add-i c = search needs
 
--- src/numbers.rt:25:5
 loop-less : tie.Need-loop-less Inv-loop μ-loop
 loop-less c = simp length-set (omega arith)
 
--- src/numbers.rt:25:5
 loop-again : tie.Need-loop-again Inv-loop μ-loop
 loop-again c = (simp length-set (omega arith), numbers-more (c .before .before .before .before .before .before .before .before .before .before .args .bytes .now) (c .before .before .before .before .before .before .before .loop .numbers) _ (c .before .before .before .before .before .before .before .loop .i) _ (omega arith) (omega arith) (c .number .ensures) (c .before .before .before .before .before .before .before .loop .inv .1))
 
--- src/numbers.rt:21:1
 same-length-2 : tie.Need-same-length-2 Inv-loop μ-loop
 same-length-2 c = search needs
 
--- src/numbers.rt:21:1
 returns-2 : tie.Need-returns-2 Inv-loop μ-loop
 returns-2 c = λ h. numbers-done _ _ _ _ (c .loop-test .left) (omega arith) (c .before .loop .inv .1)
 

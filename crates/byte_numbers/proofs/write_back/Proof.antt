@@ -1,14 +1,11 @@
+-- `byte_numbers::write_back` meets its contract. Assumes nothing.
 use mathlib.Core.Path.{sym, _∙_}
 use Rattle.term_layout.proofs.Choice.{told-true}
-use Rattle.entry.specs.Bytes.{changes}
-use Rattle.entry.proofs.Coding.{left-written, left-alone}
+use Rattle.byte_numbers.specs.Bytes.{changes}
+use Rattle.byte_numbers.proofs.Coding.{left-written, left-alone}
 use borrow.Author.Needs.{needs}
-use Rattle.entry.proofs.numbers.write_back.Statement.{statement}
-use Rattle.entry.proofs.numbers.write_back.Tie as tie
-use Rattle.entry.proofs.numbers.write_back.Reads as reads
-use Rattle.entry.proofs.numbers.write_back.Lts as lts
-use Rattle.entry.proofs.numbers.changes_buffers.Reads as changes-buffers-reads
-use Rattle.entry.proofs.numbers.write_numbers.Reads as write-numbers-reads
+use Rattle.byte_numbers.proofs.write_back.Statement.{statement}
+use Rattle.byte_numbers.proofs.write_back.Tie as tie
 
 changes-buffers-requires : tie.Need-changes-buffers-requires
 changes-buffers-requires c κs = search needs

@@ -1,15 +1,14 @@
-use Rattle.entry.specs.Bytes.{numbers-of, bytes-of}
-use Rattle.entry.proofs.Coding.{numbers-more, numbers-done, bytes-more, bytes-done}
+-- `byte_numbers::write_numbers` meets its contract. Assumes nothing.
+use Rattle.byte_numbers.specs.Bytes.{numbers-of, bytes-of}
+use Rattle.byte_numbers.proofs.Coding.{numbers-more, numbers-done, bytes-more, bytes-done}
 use Prim.Native.Nat.{ℕ, _+_, _*_, _≤_, _<_, _-_}
 use mathlib.Core.Path.{_≡_, sym, ap, _∙_}
 use mathlib.Core.List.{_++_}
 use lib.ListN.{length, drop, take, set, getD, length-set, length-drop}
 use native.Mathlib.Omega.{arith}
 use borrow.Author.Needs.{needs}
-use Rattle.entry.proofs.numbers.write_numbers.Statement.{statement}
-use Rattle.entry.proofs.numbers.write_numbers.Tie as tie
-use Rattle.entry.proofs.numbers.write_numbers.Reads as reads
-use Rattle.entry.proofs.numbers.write_numbers.Lts as lts
+use Rattle.byte_numbers.proofs.write_numbers.Statement.{statement}
+use Rattle.byte_numbers.proofs.write_numbers.Tie as tie
 
 abbrev Inv-loop : tie.InvT-loop
 Inv-loop numbers bytes₀ i₀ bytes i =
@@ -18,95 +17,72 @@ Inv-loop numbers bytes₀ i₀ bytes i =
 abbrev μ-loop : tie.MeasureT-loop
 μ-loop numbers bytes₀ i₀ bytes i = length numbers - i
 
--- src/numbers.rt:41:5
 loop-holds : tie.Need-loop-holds Inv-loop μ-loop
 loop-holds c = search needs
 
--- src/numbers.rt:42:17
 mul-n : tie.Need-mul-n Inv-loop μ-loop
 mul-n c = search needs
 
--- src/numbers.rt:42:17
 shared-slice-read-n : tie.Need-shared-slice-read-n Inv-loop μ-loop
 shared-slice-read-n c = search needs
 
--- src/numbers.rt:43:24
 cast-bytes : tie.Need-cast-bytes Inv-loop μ-loop
 cast-bytes c = search needs
 
--- src/numbers.rt:43:15
 mul-bytes : tie.Need-mul-bytes Inv-loop μ-loop
 mul-bytes c = search needs
 
--- src/numbers.rt:43:9
 slice-write-bytes : tie.Need-slice-write-bytes Inv-loop μ-loop
 slice-write-bytes c = search needs
 
--- src/numbers.rt:44:28
 cast-bytes-2 : tie.Need-cast-bytes-2 Inv-loop μ-loop
 cast-bytes-2 c = search needs
 
--- src/numbers.rt:44:15
 mul-bytes-2 : tie.Need-mul-bytes-2 Inv-loop μ-loop
 mul-bytes-2 c = search needs
 
--- src/numbers.rt:44:15
 add-bytes : tie.Need-add-bytes Inv-loop μ-loop
 add-bytes c = search needs
 
--- src/numbers.rt:44:9
 slice-write-bytes-2 : tie.Need-slice-write-bytes-2 Inv-loop μ-loop
 slice-write-bytes-2 c = simp length-set (omega arith)
 
--- src/numbers.rt:45:28
 cast-bytes-3 : tie.Need-cast-bytes-3 Inv-loop μ-loop
 cast-bytes-3 c = search needs
 
--- src/numbers.rt:45:15
 mul-bytes-3 : tie.Need-mul-bytes-3 Inv-loop μ-loop
 mul-bytes-3 c = search needs
 
--- src/numbers.rt:45:15
 add-bytes-2 : tie.Need-add-bytes-2 Inv-loop μ-loop
 add-bytes-2 c = search needs
 
--- src/numbers.rt:45:9
 slice-write-bytes-3 : tie.Need-slice-write-bytes-3 Inv-loop μ-loop
 slice-write-bytes-3 c = simp length-set (omega arith)
 
--- src/numbers.rt:46:28
 cast-bytes-4 : tie.Need-cast-bytes-4 Inv-loop μ-loop
 cast-bytes-4 c = search needs
 
--- src/numbers.rt:46:15
 mul-bytes-4 : tie.Need-mul-bytes-4 Inv-loop μ-loop
 mul-bytes-4 c = search needs
 
--- src/numbers.rt:46:15
 add-bytes-3 : tie.Need-add-bytes-3 Inv-loop μ-loop
 add-bytes-3 c = search needs
 
--- src/numbers.rt:46:9
 slice-write-bytes-4 : tie.Need-slice-write-bytes-4 Inv-loop μ-loop
 slice-write-bytes-4 c = simp length-set (omega arith)
 
--- src/numbers.rt:47:9
 add-i : tie.Need-add-i Inv-loop μ-loop
 add-i c = search needs
 
--- src/numbers.rt:41:5
 loop-less : tie.Need-loop-less Inv-loop μ-loop
 loop-less c = search needs
 
--- src/numbers.rt:41:5
 loop-again : tie.Need-loop-again Inv-loop μ-loop
 loop-again c = (simp length-set (omega arith), bytes-more (c .before .before .before .args .numbers .now) (c .before .before .loop .bytes) _ (c .before .before .loop .i) (omega arith) (omega arith) (c .before .before .loop .inv .1))
 
--- src/numbers.rt:36:1
 same-length : tie.Need-same-length Inv-loop μ-loop
 same-length c = search needs
 
--- src/numbers.rt:36:1
 returns : tie.Need-returns Inv-loop μ-loop
 returns c = bytes-done _ _ _ _ (c .loop-test .left) (omega arith) (c .before .loop .inv .1)
 

@@ -1,9 +1,10 @@
-// Buffers of bytes, and the numbers that they hold.
+// Buffers of bytes at the C boundary, and the numbers that they hold.
+use term_layout::bytes::clear_bytes;
 ghost use mathlib.Core.Path.{_≡_};
 ghost use Prim.Native.Nat.{_+_, _*_, _<_};
 ghost use lib.Dec.{T};
-ghost use lib.ListN.{length, replicate};
-ghost use Rattle.entry.specs.Bytes.{numbers-of, bytes-of, changes, left-bytes, handed, cleared};
+ghost use lib.ListN.{length};
+ghost use Rattle.byte_numbers.specs.Bytes.{numbers-of, bytes-of, changes, left-bytes, handed, cleared};
 
 fn wide(x: u8) -> u32
     ensures { λ r. ⌜ (r ≡ x) × (r < 256) ⌝ }
@@ -89,17 +90,6 @@ pub fn clear_back(answer: u32, bytes: &mut [u8])
     ensures { λ _. ⌜ now (bytes .exit) ≡ cleared answer (now (bytes .entry)) ⌝ }
 {
     if changes_buffers(answer) {
-        clear(bytes);
-    }
-}
-
-// Makes all bytes zero.
-fn clear(bytes: &mut [u8])
-    ensures { λ _. ⌜ now (bytes .exit) ≡ replicate (length (now (bytes .entry))) 0 ⌝ }
-{
-    let mut i = 0;
-    while i < bytes.len() {
-        bytes[i] = 0;
-        i += 1;
+        clear_bytes(bytes);
     }
 }

@@ -10,7 +10,7 @@ use lib.Seq.{drop-cons, take-suc-set, append-snoc, take-all, sets, sets-eq, take
 use lib.Dec.{eqb, leb}
 use borrow.Author.Tests.{eq-eqb, ne-eqb, le-leb, lt-leb}
 use Rattle.common.specs.Triples.{if}
-use Rattle.entry.specs.Bytes.{numbers-of, bytes-of, changes, left-bytes, handed, cleared}
+use Rattle.byte_numbers.specs.Bytes.{numbers-of, bytes-of, changes, left-bytes, handed, cleared}
 
 pub numbers-step : (l : List ℕ) (k : ℕ) → k + 3 < length l → numbers-of (drop k l) ≡ (getD l k 0 + 256 * getD l (k + 1) 0 + 65536 * getD l (k + 2) 0 + 16777216 * getD l (k + 3) 0) ∷ numbers-of (drop (k + 4) l)
 unfolding numbers-of

@@ -1,0 +1,25 @@
+-- `byte_numbers::clear_back` meets its contract. Assumes nothing.
+use mathlib.Core.Path.{sym, _∙_}
+use Rattle.byte_numbers.proofs.Coding.{cleared-yes, cleared-no}
+use borrow.Author.Needs.{needs}
+use Rattle.byte_numbers.proofs.clear_back.Statement.{statement}
+use Rattle.byte_numbers.proofs.clear_back.Tie as tie
+
+changes-buffers-requires : tie.Need-changes-buffers-requires
+changes-buffers-requires c κs = search needs
+
+clear-bytes-requires : tie.Need-clear-bytes-requires
+clear-bytes-requires c κs = search needs
+
+same-length : tie.Need-same-length
+same-length c = search needs
+
+returns : tie.Need-returns
+returns c = cleared-yes _ _ (sym (c .before .before .before .before .if1 .taken) ∙ c .before .before .before .before .before .changes-buffers .ensures) (c .before .before .clear-bytes .ensures)
+
+returns-2 : tie.Need-returns-2
+returns-2 c = cleared-no _ _ (sym (c .if1 .left) ∙ c .before .changes-buffers .ensures)
+
+pub clear-back-spec : {M : Type 1} → statement M
+clear-back-spec =
+    tie.close (tie.spec changes-buffers-requires clear-bytes-requires same-length returns returns-2)
