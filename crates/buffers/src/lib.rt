@@ -2,7 +2,6 @@
 pub mod reader; // reader.rt: decimal numbers of a text
 
 ghost use mathlib.Core.Path.{_≡_};
-ghost use lib.ListN.{length, replicate};
 ghost use Rattle.term_layout.specs.Dictionary.{same-row};
 
 // Whether two buffers hold the same numbers.
@@ -15,20 +14,6 @@ pub fn same(a: &[u32], b: &[u32]) -> bool
     let mut i = 0;
     while i < a.len() {
         if a[i] != b[i] {
-            return false;
-        }
-        i += 1;
-    }
-    true
-}
-
-// Whether all numbers are zero.
-pub fn all_zero(a: &[u32]) -> bool
-    ensures { λ r. ⌜ r ≡ same-row (now (a .entry)) (replicate (length (now (a .entry))) 0) ⌝ }
-{
-    let mut i = 0;
-    while i < a.len() {
-        if a[i] != 0 {
             return false;
         }
         i += 1;

@@ -1,30 +1,28 @@
 -- The terms only grow, so every accepted run of a list may be read with the terms of its end. Assumes nothing.
 use mathlib.Core.Path.{_≡_, refl, sym, _∙_, ap, subst}
 use mathlib.Core.Logic.{_⊎_, inl, inr}
-use mathlib.Core.Bool.{Bool, true, false, _&&_, not}
-use mathlib.Core.Option.{Option, some, none}
-use mathlib.Core.List.{List, [], _∷_, _++_, append-assoc, append-nil}
+use mathlib.Core.Bool.{_&&_, not}
+use mathlib.Core.List.{List, [], _∷_}
 use Prim.Native.Nat.{ℕ, zero, suc, _/_, _≤_, _<_}
 use native.Mathlib.Omega.{arith}
 use lib.Dec.{T, ltb, eqb, ltb→lt}
-use lib.ListN.{length, getD, length-append, List·getD-append}
+use lib.ListN.{length, getD, List·getD-append}
 use Rattle.loads.specs.Shown.{Lent, Run-answer, shown, containers, closed}
-use Rattle.reasoner.specs.Run.{Stop, first-met, run-stops, Run-reckoned, run-brought, run-passed, reckon-run}
+use Rattle.reasoner.specs.Run.{first-met, run-stops, Run-reckoned, run-brought, run-passed, reckon-run}
 use Rattle.term_layout.specs.Terms.{Term, no-term, property-term, membership-term, member-term, run-terms}
-use Rattle.term_layout.specs.Dictionary.{same-term, place-from, id-of, kind-known, short, roomy, put-answer, put-at, reckon-put, Brought, full, brought, if-zero, bring}
-use Rattle.term_layout.proofs.Equality.{same-term-refl}
-use Rattle.term_layout.proofs.Holding.{Added, put-cases}
-use Rattle.common.specs.Triples.{Triple, triple, Finding, In, here, there, if}
+use Rattle.term_layout.specs.Dictionary.{place-from, id-of, Brought, full, brought, bring}
+use Rattle.common.specs.Triples.{Triple, Finding, In, here, there}
 use Rattle.common.specs.Containers.{is-container-term}
-use Rattle.common.specs.Table.{none, all}
+use Rattle.common.specs.Table.{all}
 use Rattle.common.specs.Closure.{no-zero, findings}
-use Rattle.common.specs.Run.{Outcome, store-full, findings-full, accepted, run}
+use Rattle.common.specs.Run.{accepted, run}
 use Rattle.common.specs.Rows.{triples}
-use Rattle.common.proofs.Lists.{in-nil, in-cons, and→, and←}
+use Rattle.common.proofs.Lists.{in-nil, in-cons, and←}
 use Rattle.common.proofs.Run.{same-dictionary}
 use Rattle.reasoner.proofs.Bringing.{Grown, grown-none, grown-trans, grown-length, put-grows, bring-grows, place-kept, Has, bring-has}
-use Rattle.reasoner.proofs.Refusing.{unmet-all, not-not, all-in}
+use Rattle.reasoner.proofs.Refusing.{all-in}
 use Rattle.calls.specs.Calls.{Call, put, lookup, run-on, run-gave, reckon, Event, event, events-of, terms-after}
+use Rattle.reasoner.proofs.Accepting.{AcceptedRun, run-accepted}
 
 run-grows : (tl al : ℕ) (ts : List Term) (b : Lent) → Grown ts (reckon-run tl al ts b .held)
 unfolding reckon-run
@@ -48,54 +46,6 @@ pub calls-grow : (tl al : ℕ) (ts : List Term) (cs : List Call) → Grown ts (t
 unfolding terms-after
 calls-grow tl al ts [] = grown-none ts
 calls-grow tl al ts (c ∷ cs) = grown-trans ts (reckon tl al ts c .held) (terms-after tl al (reckon tl al ts c .held) cs) (reckon-grows tl al ts c) (calls-grow tl al (reckon tl al ts c .held) cs)
-
--- WHAT AN ACCEPTED RUN SAYS
-pub record AcceptedRun (tl al : ℕ) (ts : List Term) (b : Lent) (l : Run-reckoned) : Type 0 where
-  pub answer : List Triple
-  pub row : List Finding
-  pub n : ℕ
-  pub k : List ℕ
-  pub terms : List Term
-  pub brings : bring tl al ts run-terms ≡ brought terms
-  pub held : l .held ≡ terms
-  pub runs : closed b terms ≡ accepted answer row n k
-  pub gives : l .answer ≡ shown b (accepted answer row n k)
-  pub unblank : T (all (λ i. not (eqb i 0)) (b .load))
-  pub known : T (all (λ i. ltb i (length ts)) (b .load))
-
-pub run-accepted : (tl al : ℕ) (ts : List Term) (b : Lent) → reckon-run tl al ts b .answer .number ≡ 0 → AcceptedRun tl al ts b (reckon-run tl al ts b)
-unfolding reckon-run
-run-accepted tl al ts b e = passed (first-met (run-stops (length ts) b)) refl e
-  where
-    result : List Term → Outcome
-    result us = closed b us
-
-    judged : (us : List Term) → first-met (run-stops (length ts) b) ≡ 0 → bring tl al ts run-terms ≡ brought us → (o : Outcome) → result us ≡ o → shown b o .number ≡ 0 → AcceptedRun tl al ts b (record { answer = shown b o; held = us })
-    judged us q f store-full g e = absurd (omega arith)
-    judged us q f findings-full g e = absurd (omega arith)
-    judged us q f (accepted N F m l) g e =
-        let h = unmet-all (run-stops (length ts) b) tt q in
-        record {
-          answer = N;
-          row = F;
-          n = m;
-          k = l;
-          terms = us;
-          brings = f;
-          held = refl;
-          runs = g;
-          gives = refl;
-          unblank = not-not (all (λ i. not (eqb i 0)) (b .load)) (h .1 .1 .1 .1 .1 .1 .1 .0);
-          known = not-not (all (λ i. ltb i (length ts)) (b .load)) (h .1 .1 .1 .1 .1 .1 .1 .1 .0);
-        }
-
-    three : first-met (run-stops (length ts) b) ≡ 0 → (w : Brought) → bring tl al ts run-terms ≡ w → run-brought b ts w .answer .number ≡ 0 → AcceptedRun tl al ts b (run-brought b ts w)
-    three q full f e = absurd (omega arith)
-    three q (brought us) f e = judged us q f (result us) refl e
-
-    passed : (n : ℕ) → first-met (run-stops (length ts) b) ≡ n → run-passed n tl al ts b .answer .number ≡ 0 → AcceptedRun tl al ts b (run-passed n tl al ts b)
-    passed zero q e = three q (bring tl al ts run-terms) refl e
-    passed (suc n) q e = absurd (omega arith)
 
 pub load-clean : (l : List ℕ) → T (all (λ i. not (eqb i 0)) l) → (t : Triple) → In t (triples l) → T (no-zero t)
 load-clean l h t i =

@@ -21,7 +21,7 @@ use Rattle.reasoner.specs.Run.{Run-result, unchanged, run-laid, reckon-run, run
 use Rattle.reasoner.specs.Values.{run-left}
 use Rattle.loads.specs.declared.values.RunAnswer.{RunAnswer}
 use Rattle.reasoner.specs.declared.values.RunNext.{RunNext}
-use Rattle.calls.proofs.Growth.{AcceptedRun, run-accepted}
+use Rattle.reasoner.proofs.Accepting.{AcceptedRun, run-accepted}
 use Rattle.closer_input.specs.Input.{bad-line, input, parse}
 use Rattle.closer_input.specs.Output.{answer, refusal, bad-line-text}
 use Rattle.decimal.specs.Contracts.{Wrote}

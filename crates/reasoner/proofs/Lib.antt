@@ -1,3 +1,4 @@
 pub mod Refusing
 pub mod Bringing
 pub mod Running
+pub mod Accepting
