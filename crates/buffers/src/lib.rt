@@ -1,4 +1,5 @@
 // Numbers read and compared, for the programs that hold calls to values written beforehand.
+pub mod memory; // memory.rt: numbers by cell
 pub mod reader; // reader.rt: decimal numbers of a text
 
 ghost use mathlib.Core.Path.{_≡_};

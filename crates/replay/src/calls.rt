@@ -1,11 +1,11 @@
 // The four calls on a memory: each takes its arguments from the cells and leaves there what it gives and the buffers as they are after it.
-use crate::memory::cell;
-use crate::memory::give_bytes;
-use crate::memory::give_numbers;
-use crate::memory::length_in;
-use crate::memory::set_cell;
-use crate::memory::take_bytes;
-use crate::memory::take_numbers;
+use buffers::memory::cell;
+use buffers::memory::give_bytes;
+use buffers::memory::give_numbers;
+use buffers::memory::length_in;
+use buffers::memory::set_cell;
+use buffers::memory::take_bytes;
+use buffers::memory::take_numbers;
 use common::Id;
 use index::Counters;
 use index::lookup;

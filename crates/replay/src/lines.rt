@@ -1,7 +1,7 @@
 // A line of the text: what it does to the memories, and what it shows.
 use crate::calls::make;
-use crate::memory::fill;
-use crate::memory::take_numbers;
+use buffers::memory::fill;
+use buffers::memory::take_numbers;
 use buffers::reader::Cursor;
 use buffers::reader::Read;
 use buffers::reader::read_number;

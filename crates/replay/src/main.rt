@@ -1,20 +1,23 @@
 // Plays a text of calls with what each must give: crates/replay/stdin. README.md has its format, and how it was made.
 mod calls; // calls.rt: the four calls on a memory
 mod lines; // lines.rt: a line of the text
-mod memory; // memory.rt: numbers by cell
 mod report; // report.rt: what is printed
 
 use buffers::reader::Read;
 use buffers::reader::read_number;
 use lines::Turn;
 use lines::play_line;
-use memory::CELLS;
-use memory::SAVED;
 use report::Tally;
 use report::end_list;
 use report::no_calls;
 use report::print_difference;
 use report::print_unreadable;
+
+// The cells of a memory.
+const CELLS: usize = 70112;
+
+// The cells before those of the load, which are not saved.
+const SAVED: usize = 20952;
 
 // Room for the text.
 const TEXT: usize = 520000;

@@ -3,6 +3,8 @@ use crate::lines::Turn;
 use buffers::reader::Cursor;
 use buffers::reader::read_bytes;
 use buffers::reader::read_number;
+ghost use mathlib.Core.Path.{_≡_};
+ghost use Prim.Native.Nat.{_+_, _%_, _^_};
 
 // The longest name of a list.
 const NAME: usize = 60;
@@ -13,7 +15,9 @@ pub struct Tally {
     pub differences: u32,
 }
 
-pub fn no_calls() -> Tally {
+pub fn no_calls() -> Tally
+    ensures { λ r. ⌜ r ≡ record { calls = 0; differences = 0 } ⌝ }
+{
     Tally {
         calls: 0,
         differences: 0,
@@ -21,7 +25,10 @@ pub fn no_calls() -> Tally {
 }
 
 impl Tally {
-    pub fn with(self, turn: Turn) -> Tally {
+    pub fn with(self, turn: Turn) -> Tally
+        ensures { λ r. ⌜ r .calls ≡ (self .calls + turn .calls) % 2 ^ 32 ⌝ }
+        ensures { λ r. ⌜ r .differences ≡ (self .differences + turn .differences) % 2 ^ 32 ⌝ }
+    {
         Tally {
             calls: std::num::wrapping_add_u32(self.calls, turn.calls),
             differences: std::num::wrapping_add_u32(self.differences, turn.differences),

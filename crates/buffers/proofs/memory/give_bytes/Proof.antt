@@ -1,20 +1,23 @@
--- `replay::memory::give_bytes` meets its contract. Assumes nothing.
-use Prim.Native.Nat.{_≤_, _-_}
-use mathlib.Core.Path.{_≡_}
-use lib.ListN.{length}
+-- `buffers::memory::give_bytes` meets its contract. Assumes nothing.
+use Prim.Native.Nat.{ℕ, _-_, _%_}
+use mathlib.Core.Path.{refl, ap, _∙_}
+use native.Mathlib.Omega.{arith}
+use lib.ListN.{length, set}
 use borrow.Author.Needs.{needs}
-use Rattle.replay.proofs.memory.give_bytes.Statement.{statement}
-use Rattle.replay.proofs.memory.give_bytes.Tie as tie
+use Rattle.buffers.specs.Memory.{cell-from}
+use Rattle.buffers.proofs.Filling.{Gave, give-start, give-more, give-end}
+use Rattle.buffers.proofs.memory.give_bytes.Statement.{statement}
+use Rattle.buffers.proofs.memory.give_bytes.Tie as tie
 
 abbrev Inv-loop : tie.InvT-loop
 Inv-loop memory₀ at row i₀ memory i =
-    (i ≤ length row) × (length memory ≡ length memory₀)
+    Gave memory₀ at row memory i
 
 abbrev μ-loop : tie.MeasureT-loop
 μ-loop memory₀ at row i₀ memory i = length row - i
 
 loop-holds : tie.Need-loop-holds Inv-loop μ-loop
-loop-holds c = search needs
+loop-holds c = give-start _ _ _
 
 wrapping-add-usize-requires : tie.Need-wrapping-add-usize-requires Inv-loop μ-loop
 wrapping-add-usize-requires c κs = search needs
@@ -35,13 +38,13 @@ loop-less : tie.Need-loop-less Inv-loop μ-loop
 loop-less c = search needs
 
 loop-again : tie.Need-loop-again Inv-loop μ-loop
-loop-again c = search needs
+loop-again c = give-more (c .before .before .before .before .before .before .before .before .loop .inv) (c .before .before .before .before .before .before .before .loop-test .taken) (c .before .before .before .before .before .wrapping-add-usize .ensures) (c .before .before .set-cell .ensures ∙ ap (λ (v : ℕ). set (c .before .before .before .before .before .before .before .before .loop .memory) (c .before .before .before .before .before .wrapping-add-usize .result) v) (c .before .before .before .wide .ensures))
 
 same-length : tie.Need-same-length Inv-loop μ-loop
-same-length c = search needs
+same-length c = c .before .loop .inv .long
 
 returns : tie.Need-returns Inv-loop μ-loop
-returns c = search needs
+returns c = give-end (c .before .loop .inv) (c .loop-test .left)
 
 pub give-bytes-spec : {M : Type 1} → statement M
 give-bytes-spec =

@@ -1,12 +1,9 @@
-// A memory: numbers by cell, on which the calls are made. README.md has the map of its cells.
+// A memory: numbers by cell, on which program replay makes its calls. crates/replay/README.md has the map of its cells.
 ghost use mathlib.Core.Path.{_≡_};
 ghost use Prim.Native.Nat.{_≤_};
-ghost use lib.ListN.{getD, set};
-
-pub const CELLS: usize = 70112;
-
-// The cells before those of the load, which are not saved.
-pub const SAVED: usize = 20952;
+ghost use Prim.Native.Nat.{_%_};
+ghost use lib.ListN.{getD, set, length};
+ghost use Rattle.buffers.specs.Memory.{cell-from, Each, given};
 
 // The number in a cell, and 0 past the last.
 pub fn cell(memory: &[u32], at: usize) -> u32
@@ -33,7 +30,9 @@ pub fn length_in(memory: &[u32], at: usize, most: usize) -> usize
 }
 
 // Fills the row from the cells.
-pub fn take_numbers(memory: &[u32], at: usize, row: &mut [u32]) {
+pub fn take_numbers(memory: &[u32], at: usize, row: &mut [u32])
+    ensures { λ _. ⌜ Each (λ k. getD (now (memory .entry)) (cell-from at k) 0) (now (row .exit)) ⌝ }
+{
     let mut i = 0;
     while i < row.len() {
         row[i] = cell(memory, std::num::wrapping_add_usize(at, i));
@@ -41,7 +40,9 @@ pub fn take_numbers(memory: &[u32], at: usize, row: &mut [u32]) {
     }
 }
 
-pub fn take_bytes(memory: &[u32], at: usize, row: &mut [u8]) {
+pub fn take_bytes(memory: &[u32], at: usize, row: &mut [u8])
+    ensures { λ _. ⌜ Each (λ k. getD (now (memory .entry)) (cell-from at k) 0 % 256) (now (row .exit)) ⌝ }
+{
     let mut i = 0;
     while i < row.len() {
         row[i] = (cell(memory, std::num::wrapping_add_usize(at, i)) % 256) as u8;
@@ -50,7 +51,9 @@ pub fn take_bytes(memory: &[u32], at: usize, row: &mut [u8]) {
 }
 
 // Writes the row to the cells.
-pub fn give_numbers(memory: &mut [u32], at: usize, row: &[u32]) {
+pub fn give_numbers(memory: &mut [u32], at: usize, row: &[u32])
+    ensures { λ _. ⌜ now (memory .exit) ≡ given (now (memory .entry)) at (now (row .entry)) (length (now (row .entry))) ⌝ }
+{
     let mut i = 0;
     while i < row.len() {
         set_cell(&mut *memory, std::num::wrapping_add_usize(at, i), row[i]);
@@ -58,11 +61,15 @@ pub fn give_numbers(memory: &mut [u32], at: usize, row: &[u32]) {
     }
 }
 
-fn wide(b: u8) -> u32 {
+fn wide(b: u8) -> u32
+    ensures { λ r. ⌜ r ≡ b ⌝ }
+{
     b as u32
 }
 
-pub fn give_bytes(memory: &mut [u32], at: usize, row: &[u8]) {
+pub fn give_bytes(memory: &mut [u32], at: usize, row: &[u8])
+    ensures { λ _. ⌜ now (memory .exit) ≡ given (now (memory .entry)) at (now (row .entry)) (length (now (row .entry))) ⌝ }
+{
     let mut i = 0;
     while i < row.len() {
         set_cell(
@@ -75,7 +82,9 @@ pub fn give_bytes(memory: &mut [u32], at: usize, row: &[u8]) {
 }
 
 // Fills the row with one number.
-pub fn fill(row: &mut [u32], number: u32) {
+pub fn fill(row: &mut [u32], number: u32)
+    ensures { λ _. ⌜ Each (λ _. number) (now (row .exit)) ⌝ }
+{
     let mut i = 0;
     while i < row.len() {
         row[i] = number;

@@ -1,10 +1,10 @@
--- `replay::memory::set_cell` meets its contract. Assumes nothing.
+-- `buffers::memory::set_cell` meets its contract. Assumes nothing.
 use mathlib.Core.Path.{sym}
 use native.Mathlib.Omega.{arith}
 use lib.Seq.{set-out}
 use borrow.Author.Needs.{needs}
-use Rattle.replay.proofs.memory.set_cell.Statement.{statement}
-use Rattle.replay.proofs.memory.set_cell.Tie as tie
+use Rattle.buffers.proofs.memory.set_cell.Statement.{statement}
+use Rattle.buffers.proofs.memory.set_cell.Tie as tie
 
 mul-memory : tie.Need-mul-memory
 mul-memory c = search needs

@@ -1,10 +1,10 @@
--- `replay::memory::cell` meets its contract. Assumes nothing.
+-- `buffers::memory::cell` meets its contract. Assumes nothing.
 use mathlib.Core.Path.{sym}
 use native.Mathlib.Omega.{arith}
 use lib.ListN.{List·getD-eq-default}
 use borrow.Author.Needs.{needs}
-use Rattle.replay.proofs.memory.cell.Statement.{statement}
-use Rattle.replay.proofs.memory.cell.Tie as tie
+use Rattle.buffers.proofs.memory.cell.Statement.{statement}
+use Rattle.buffers.proofs.memory.cell.Tie as tie
 
 mul-result : tie.Need-mul-result
 mul-result c = search needs
