@@ -1,8 +1,14 @@
 // The text: decimal numbers, each ended by a space or a line feed.
 use decimal::Field;
 use decimal::number;
-ghost use Prim.Native.Nat.{_≤_};
+ghost use mathlib.Core.Path.{_≡_};
+ghost use mathlib.Core.Bool.{_&&_};
+ghost use Prim.Native.Nat.{_+_, _≤_};
+ghost use lib.Dec.{ltb};
 ghost use lib.ListN.{length};
+ghost use Rattle.common.specs.Triples.{if};
+ghost use Rattle.buffers.specs.Reading.{ends, end-from, read-from, cursor-after, number-after, any, is-byte, byte-of as byte·of};
+ghost use Rattle.buffers.specs.Memory.{Each};
 
 // A place in the text, and whether all before it could be read.
 pub struct Cursor {
@@ -17,15 +23,16 @@ pub struct Read {
     pub ok: bool,
 }
 
-fn ends_number(b: u8) -> bool {
+fn ends_number(b: u8) -> bool
+    ensures { λ r. ⌜ r ≡ ends b ⌝ }
+{
     b == 32 || b == 10
 }
 
 // Where the number that begins at a place ends.
 fn end_of_number(text: &[u8], at: usize) -> usize
     requires { ⌜ at ≤ length (now text) ⌝ }
-    ensures { λ r. ⌜ at ≤ r ⌝ }
-    ensures { λ r. ⌜ r ≤ length (now (text .entry)) ⌝ }
+    ensures { λ r. ⌜ (r ≡ end-from (now (text .entry)) at) × (at ≤ r) × (r ≤ length (now (text .entry))) ⌝ }
 {
     let mut end = at;
     while end < text.len() {
@@ -38,11 +45,16 @@ fn end_of_number(text: &[u8], at: usize) -> usize
 }
 
 // The place after the byte that ends a number, if the text goes on.
-fn after(text: &[u8], end: usize) -> usize {
+fn after(text: &[u8], end: usize) -> usize
+    ensures { λ r. ⌜ r ≡ if (ltb end (length (now (text .entry)))) (λ _. end + 1) (λ _. end) ⌝ }
+{
     if end < text.len() { end + 1 } else { end }
 }
 
-pub fn read_number(text: &[u8], at: usize) -> Read {
+// The number that begins at a place.
+pub fn read_number(text: &[u8], at: usize) -> Read
+    ensures { λ r. ⌜ r ≡ read-from (now (text .entry)) at ⌝ }
+{
     if text.len() < at {
         return Read {
             value: 0,
@@ -66,8 +78,17 @@ pub fn read_number(text: &[u8], at: usize) -> Read {
     }
 }
 
+// A place is good where all before it is.
+fn both(a: bool, b: bool) -> bool
+    ensures { λ r. ⌜ r ≡ a && b ⌝ }
+{
+    if a { b } else { false }
+}
+
 // Fills the row with the numbers from the cursor on.
-pub fn read_row(text: &[u8], from: Cursor, row: &mut [u32]) -> Cursor {
+pub fn read_row(text: &[u8], from: Cursor, row: &mut [u32]) -> Cursor
+    ensures { λ r. ⌜ (r ≡ cursor-after any (now (text .entry)) from (length (now (row .entry)))) × Each (number-after any (now (text .entry)) from) (now (row .exit)) ⌝ }
+{
     let mut at = from.at;
     let mut ok = from.ok;
     let mut i = 0;
@@ -75,7 +96,7 @@ pub fn read_row(text: &[u8], from: Cursor, row: &mut [u32]) -> Cursor {
         let read = read_number(text, at);
         row[i] = read.value;
         at = read.at;
-        ok = ok && read.ok;
+        ok = both(ok, read.ok);
         i += 1;
     }
     Cursor { at, ok }
@@ -87,7 +108,9 @@ struct Byte {
     ok: bool,
 }
 
-fn byte_of(n: u32) -> Byte {
+fn byte_of(n: u32) -> Byte
+    ensures { λ r. ⌜ (r .value ≡ byte·of n) × (r .ok ≡ is-byte n) ⌝ }
+{
     if 255 < n {
         return Byte {
             value: 0,
@@ -101,7 +124,9 @@ fn byte_of(n: u32) -> Byte {
 }
 
 // Fills the row with the bytes whose numbers stand from the cursor on.
-pub fn read_bytes(text: &[u8], from: Cursor, row: &mut [u8]) -> Cursor {
+pub fn read_bytes(text: &[u8], from: Cursor, row: &mut [u8]) -> Cursor
+    ensures { λ r. ⌜ (r ≡ cursor-after is-byte (now (text .entry)) from (length (now (row .entry)))) × Each (λ k. byte·of (number-after is-byte (now (text .entry)) from k)) (now (row .exit)) ⌝ }
+{
     let mut at = from.at;
     let mut ok = from.ok;
     let mut i = 0;
@@ -110,7 +135,7 @@ pub fn read_bytes(text: &[u8], from: Cursor, row: &mut [u8]) -> Cursor {
         let byte = byte_of(read.value);
         row[i] = byte.value;
         at = read.at;
-        ok = ok && read.ok && byte.ok;
+        ok = both(ok, both(read.ok, byte.ok));
         i += 1;
     }
     Cursor { at, ok }

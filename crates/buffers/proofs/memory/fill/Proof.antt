@@ -1,10 +1,9 @@
 -- `buffers::memory::fill` meets its contract. Assumes nothing.
-use Prim.Native.Nat.{ℕ, _-_, _%_}
-use mathlib.Core.Path.{refl, ap, _∙_}
+use Prim.Native.Nat.{_-_}
+use mathlib.Core.Path.{refl}
 use native.Mathlib.Omega.{arith}
-use lib.ListN.{length, getD}
+use lib.ListN.{length}
 use borrow.Author.Needs.{needs}
-use Rattle.buffers.specs.Memory.{cell-from}
 use Rattle.buffers.proofs.Filling.{Filled, fill-start, fill-more, fill-end}
 use Rattle.buffers.proofs.memory.fill.Statement.{statement}
 use Rattle.buffers.proofs.memory.fill.Tie as tie

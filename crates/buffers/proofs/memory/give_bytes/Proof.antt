@@ -1,10 +1,8 @@
 -- `buffers::memory::give_bytes` meets its contract. Assumes nothing.
-use Prim.Native.Nat.{ℕ, _-_, _%_}
-use mathlib.Core.Path.{refl, ap, _∙_}
-use native.Mathlib.Omega.{arith}
+use Prim.Native.Nat.{ℕ, _-_}
+use mathlib.Core.Path.{ap, _∙_}
 use lib.ListN.{length, set}
 use borrow.Author.Needs.{needs}
-use Rattle.buffers.specs.Memory.{cell-from}
 use Rattle.buffers.proofs.Filling.{Gave, give-start, give-more, give-end}
 use Rattle.buffers.proofs.memory.give_bytes.Statement.{statement}
 use Rattle.buffers.proofs.memory.give_bytes.Tie as tie

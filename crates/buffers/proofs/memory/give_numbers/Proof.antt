@@ -1,10 +1,7 @@
 -- `buffers::memory::give_numbers` meets its contract. Assumes nothing.
-use Prim.Native.Nat.{ℕ, _-_, _%_}
-use mathlib.Core.Path.{refl, ap, _∙_}
-use native.Mathlib.Omega.{arith}
-use lib.ListN.{length, getD}
+use Prim.Native.Nat.{_-_}
+use lib.ListN.{length}
 use borrow.Author.Needs.{needs}
-use Rattle.buffers.specs.Memory.{cell-from}
 use Rattle.buffers.proofs.Filling.{Gave, give-start, give-more, give-end}
 use Rattle.buffers.proofs.memory.give_numbers.Statement.{statement}
 use Rattle.buffers.proofs.memory.give_numbers.Tie as tie

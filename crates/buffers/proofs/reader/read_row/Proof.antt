@@ -1,20 +1,24 @@
 -- `buffers::reader::read_row` meets its contract. Assumes nothing.
-use Prim.Native.Nat.{_≤_, _-_}
-use mathlib.Core.Path.{_≡_}
+use Prim.Native.Nat.{_-_}
+use mathlib.Core.Path.{_≡_, _∙_, ap}
+use native.Mathlib.Omega.{arith}
 use lib.ListN.{length}
 use borrow.Author.Needs.{needs}
+use Rattle.buffers.specs.Reading.{cursor-after, number-after, any}
+use Rattle.buffers.proofs.Filling.{Filled, fill-start, fill-more, fill-end}
+use Rattle.buffers.proofs.Fields.{and-true, cursor-start, cursor-more, value-next}
 use Rattle.buffers.proofs.reader.read_row.Statement.{statement}
 use Rattle.buffers.proofs.reader.read_row.Tie as tie
 
 abbrev Inv-loop : tie.InvT-loop
 Inv-loop text row₀ at₀ ok₀ i₀ row at ok i =
-    (i ≤ length row₀) × (length row ≡ length row₀)
+    Filled (number-after any text (record { at = at₀; ok = ok₀ })) row₀ row i × (record { at = at; ok = ok } ≡ cursor-after any text (record { at = at₀; ok = ok₀ }) i)
 
 abbrev μ-loop : tie.MeasureT-loop
 μ-loop text row₀ at₀ ok₀ i₀ row at ok i = length row₀ - i
 
 loop-holds : tie.Need-loop-holds Inv-loop μ-loop
-loop-holds c = search needs
+loop-holds c = (fill-start _ _, cursor-start _ _ _)
 
 read-number-requires : tie.Need-read-number-requires Inv-loop μ-loop
 read-number-requires c κs = search needs
@@ -25,6 +29,9 @@ mul-row c = search needs
 slice-write-row : tie.Need-slice-write-row Inv-loop μ-loop
 slice-write-row c = search needs
 
+both-requires : tie.Need-both-requires Inv-loop μ-loop
+both-requires c κs = search needs
+
 add-i : tie.Need-add-i Inv-loop μ-loop
 add-i c = search needs
 
@@ -32,13 +39,13 @@ loop-less : tie.Need-loop-less Inv-loop μ-loop
 loop-less c = search needs
 
 loop-again : tie.Need-loop-again Inv-loop μ-loop
-loop-again c = search needs
+loop-again c = (fill-more (c .before .before .before .loop .inv .0) (c .before .read-number .result .value) (c .before .before .loop-test .taken) (value-next any (c .before .before .before .before .before .before .args .text .now) (record { at = c .before .before .before .before .before .before .args .from .at; ok = c .before .before .before .before .before .before .args .from .ok }) (c .before .before .before .loop .i) (c .before .before .before .loop .at) (c .before .before .before .loop .ok) (c .before .before .before .loop .inv .1) (c .before .read-number .result) (c .before .read-number .ensures)), cursor-more any (c .before .before .before .before .before .before .args .text .now) (record { at = c .before .before .before .before .before .before .args .from .at; ok = c .before .before .before .before .before .before .args .from .ok }) (c .before .before .before .loop .i) (c .before .before .before .loop .at) (c .before .before .before .loop .ok) (c .before .before .before .loop .inv .1) (c .before .read-number .result) (c .before .read-number .ensures) (c .both .result) (c .both .ensures ∙ and-true (c .before .before .before .loop .ok) (c .before .read-number .result .ok)))
 
 same-length : tie.Need-same-length Inv-loop μ-loop
-same-length c = search needs
+same-length c = c .before .loop .inv .0 .long
 
 returns : tie.Need-returns Inv-loop μ-loop
-returns c = search needs
+returns c = (c .before .loop .inv .1 ∙ ap (cursor-after any _ _) (omega (arith, c .before .loop .inv .0 .within, c .before .loop .inv .0 .long, c .loop-test .left)), fill-end (c .before .loop .inv .0) (c .loop-test .left))
 
 pub read-row-spec : {M : Type 1} → statement M
 read-row-spec =
@@ -50,6 +57,7 @@ read-row-spec =
     read-number-requires
     mul-row
     slice-write-row
+    both-requires
     add-i
     loop-less
     loop-again
