@@ -6,15 +6,16 @@ use lib.ListN.{length, take}
 use Rattle.common.specs.Triples.{Triple, triple, Finding, finding, In, key-triple, key-finding, Ascending}
 use Rattle.common.specs.Rules.{Graph}
 use Rattle.common.specs.Containers.{Containers}
-use Rattle.common.specs.Table.{gives, graph-of}
+use Rattle.common.specs.Table.{graph-of}
 use Rattle.common.specs.Closure.{Sub, IsClosure, closure, findings, five-counts, total}
 use Rattle.common.specs.Run.{accepted, run}
 use Rattle.common.specs.Rows.{flat, flat-findings, triples, findings-of, filled}
 use Rattle.common.specs.Batch.{Same, Conditions}
 use Rattle.common.proofs.Checks.{findings-ascending, findings→, findings←, found-up}
-use Rattle.common.proofs.LoadClosure.{Closure, complete→, computed→, closure-ascending, fits→complete, closure-is}
+use Rattle.common.proofs.LoadClosure.{closure-ascending}
 use Rattle.common.proofs.Batch.{in-without-zero→, in-without-zero←, without-zero-ascending}
-use Rattle.common.proofs.Run.{accepted→, same-swap, same-sub, batch-law}
+use Rattle.common.proofs.Run.{accepted→, batch-law}
+use Rattle.common.proofs.Refusals.{computed-in, in-computed}
 use Rattle.common.proofs.Rows.{triples-filled, findings-filled, total-findings}
 use Rattle.term_layout.specs.Terms.{Term, start-terms}
 use Rattle.term_layout.specs.Layout.{decode}
@@ -40,28 +41,21 @@ module _ (c : Containers) (b : Lent) (cap fcap : ℕ) (X N : List Triple) (F : L
   pub found-shown : found (shown b (accepted N F n k)) ≡ F
   found-shown = ap (λ m. findings-of (take (5 * m) (filled (b .findings) (flat-findings F)))) counted ∙ findings-filled (b .findings) F
 
-  -- a load Y with the same triples has the same closure
-  module _ (Y : List Triple) (s : Same X Y) (C : Graph) (h : IsClosure c Y C) where
-    into : Sub (graph-of (closure c (suc cap) X)) C
-    into x y z i = closure-is c Y .least C (h .holds) (h .closed) x y z (same-sub c X Y s x y z (computed→ c (suc cap) X x y z i))
-
-    back : Sub C (graph-of (closure c (suc cap) X))
-    back x y z i =
-        complete→ c (suc cap) X (fits→complete c cap X (accepted→ c cap fcap X N F n k r .fits)) x y z
-        (same-sub c Y X (same-swap s) x y z (h .least (Closure c Y) (closure-is c Y .holds) (closure-is c Y .closed) x y z i))
-
   pub exact : (Y : List Triple) → Same X Y → Exact c Y (shown b (accepted N F n k))
   exact Y s =
       let a = accepted→ c cap fcap X N F n k r in
       let e = answer-shown ∙ a .answer in
       let f = found-shown ∙ a .found in
+      -- a load with the same triples has the same closure
+      let into = computed-in c cap X Y s in
+      let back : (C : Graph) → IsClosure c Y C → Sub C (graph-of (closure c (suc cap) X)) = λ C h. in-computed c cap X Y s C h (a .fits) in
       record {
         ascending = subst (Ascending key-triple) (sym e) (without-zero-ascending (closure c (suc cap) X) (closure-ascending c (suc cap) X));
-        sound = λ C h x y z i. let (j, g) = in-without-zero→ (closure c (suc cap) X) (triple x y z) (subst (In (triple x y z)) e i) in (into Y s C h x y z j, g);
-        complete = λ C h x y z i g. subst (In (triple x y z)) (sym e) (in-without-zero← (closure c (suc cap) X) (triple x y z) (back Y s C h x y z i) g);
+        sound = λ C h x y z i. let (j, g) = in-without-zero→ (closure c (suc cap) X) (triple x y z) (subst (In (triple x y z)) e i) in (into C h x y z j, g);
+        complete = λ C h x y z i g. subst (In (triple x y z)) (sym e) (in-without-zero← (closure c (suc cap) X) (triple x y z) (back C h x y z i) g);
         findings-ascending = subst (Ascending key-finding) (sym f) (findings-ascending (closure c (suc cap) X));
-        findings-sound = λ C h m x y z w i. found-up (into Y s C h) (findings→ (closure c (suc cap) X) (subst (In (finding m x y z w)) f i));
-        findings-complete = λ C h m x y z w i. subst (In (finding m x y z w)) (sym f) (findings← (closure c (suc cap) X) (found-up (back Y s C h) i));
+        findings-sound = λ C h m x y z w i. found-up (into C h) (findings→ (closure c (suc cap) X) (subst (In (finding m x y z w)) f i));
+        findings-complete = λ C h m x y z w i. subst (In (finding m x y z w)) (sym f) (findings← (closure c (suc cap) X) (found-up (back C h) i));
         count = a .count ∙ ap length (sym answer-shown);
         counts = a .counts ∙ ap five-counts (sym found-shown);
       }
@@ -100,6 +94,14 @@ batches tl al ts cs b₁ b₂ b₃ o₁ o₂ o₃ i₁ i₂ i₃ n₁ n₂ n₃ 
       subst (Exact c (A ++ B)) (sym (r₃ .gives)) (exact c b₃ x₃ y₃ (triples (b₃ .load)) (r₃ .answer) (r₃ .row) (r₃ .n) (r₃ .k) (r₃ .runs) (A ++ B) s₃),
     )
 
+each-exact : (tl al : ℕ) (ts : List Term) (cs : List Call) (b : Lent) (o : Run-answer) → In (event (run-on b) (run-gave o)) (events-of tl al ts cs) → o .number ≡ 0
+    → Exact (containers (terms-after tl al ts cs)) (triples (b .load)) o
+each-exact tl al ts cs b o i n =
+    let r = reading tl al ts cs b o i n in
+    let c = containers (terms-after tl al ts cs) in
+    subst (Exact c (triples (b .load))) (sym (r .gives))
+    (exact c b (length (b .store) / 3) (length (b .findings) / 5) (triples (b .load)) (r .answer) (r .row) (r .n) (r .k) (r .runs) (triples (b .load)) (λ t j. j, λ t j. j))
+
 pub demand-3 : (table arena : List ℕ) → start-gives table arena .number ≡ 0 → (cs : List Call) → Demand-3 table arena cs
 demand-3 table arena s cs =
     let tl = length table in
@@ -110,6 +112,9 @@ demand-3 table arena s cs =
     record {
       each = e;
       unbroken = λ v i. events-unbroken tl al start-terms cs v (subst (In v) f i);
+      exact-each = λ b o i n.
+          subst (λ (ws : List Term). Exact (containers ws) (triples (b .load)) o) (sym g)
+          (each-exact tl al start-terms cs b o (subst (In (event (run-on b) (run-gave o))) f i) n);
       batch = λ b₁ b₂ b₃ o₁ o₂ o₃ i₁ i₂ i₃ n₁ n₂ n₃ A B s₁ s₂ s₃ h.
           subst (λ (ws : List Term). Agree o₂ o₃ × Exact (containers ws) (A ++ B) o₃) (sym g)
           (batches tl al start-terms cs b₁ b₂ b₃ o₁ o₂ o₃ (subst (In (event (run-on b₁) (run-gave o₁))) f i₁) (subst (In (event (run-on b₂) (run-gave o₂))) f i₂) (subst (In (event (run-on b₃) (run-gave o₃))) f i₃)

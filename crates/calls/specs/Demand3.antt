@@ -56,6 +56,10 @@ pub record Demand-3 (table arena : List ℕ) (cs : List Call) : Type 1 where
   pub each : calls-give (start-gives table arena .contents) cs ≡ reckoned (length table) (length arena) cs
   -- refusal 1 never occurs
   pub unbroken : (e : Event) → In e (calls-give (start-gives table arena .contents) cs .events) → number-of (e .out) ≢ 1
+  -- every accepted run of the list: exactly what the closure of its load says
+  pub exact-each : (b : Lent) (o : Run-answer)
+      → In (event (run-on b) (run-gave o)) (calls-give (start-gives table arena .contents) cs .events) → o .number ≡ 0
+      → Exact (containers (decode (calls-give (start-gives table arena .contents) cs .contents))) (triples (b .load)) o
   -- wherever three accepted runs of the list load A, then A's answer with B, then A and B together, each load in any order and with any
   -- repeats; under the conditions on list triples and container properties, an id's term being read in the dictionary that the list leaves:
   -- the last two give the same, and it is what the closure of A and B together says

@@ -9,6 +9,7 @@ pub mod Start
 pub mod LoadClosure
 pub mod Batch
 pub mod Run
+pub mod Refusals
 pub mod Ids
 pub mod Rows
 pub mod Cases

@@ -333,3 +333,24 @@ sub-length {A} key (x ∷ xs) (y ∷ ys) a b f = go (in-cons (f x (here refl))) 
     go : (x ≡ y) ⊎ In x ys → (((z : A) → In z xs → In z ys) → length xs ≤ length ys) → (((z : A) → In z (x ∷ xs) → In z ys) → suc (length xs) ≤ length ys) → suc (length xs) ≤ suc (length ys)
     go (inl e) k m = suc-le-suc (k (λ z i. after e z i (in-cons (f z (there i)))))
     go (inr h) k m = let u = m (λ z i. beyond h z (in-cons i) (in-cons (f z i))) in omega arith
+
+-- an ascending list has no element twice
+pub ascending-distinct : {A : Type 0} (key : A → List ℕ) (xs : List A) → Ascending key xs → Distinct xs
+ascending-distinct key [] a = tt
+ascending-distinct key (x ∷ xs) a = (λ i. not-before-self key x (a .0 x i), ascending-distinct key xs (a .1))
+
+-- distinct elements that all stand in an ascending list are no more than it has
+pub distinct-length : {A : Type 0} (key : A → List ℕ) → Tells key → (xs ys : List A) → Distinct xs → Ascending key ys → ((z : A) → In z xs → In z ys)
+    → length xs ≤ length ys
+unfolding insert-all
+distinct-length {A} key tells xs ys d b f =
+    omega (
+      arith,
+      insert-distinct key tells xs [] d (λ x i j. in-nil j),
+      sub-length key (insert-all key xs []) ys (ascending-insert-all key tells xs [] tt) b
+          (λ z i. there-too z (in-insert-all→ key tells xs [] i)),
+    )
+  where
+    there-too : (z : A) → In z xs ⊎ In z [] → In z ys
+    there-too z (inl i) = f z i
+    there-too z (inr i) = absurd (in-nil i)

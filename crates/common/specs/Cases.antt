@@ -4,16 +4,19 @@
 use mathlib.Core.Path.{_≡_}
 use mathlib.Core.Bool.{Bool, true, false}
 use mathlib.Core.List.{List, [], _∷_, _++_}
-use Prim.Native.Nat.{ℕ}
+use Prim.Native.Nat.{ℕ, suc}
 use Prim.Native.String.{String}
 use Rattle.common.specs.Text.{text}
 use Rattle.common.specs.Triples.{Triple, triple, Finding, finding}
 use Rattle.common.specs.Containers.{Containers, is-container-term}
+use Rattle.common.specs.Closure.{closure}
 use Rattle.common.specs.Run.{Outcome, store-full, accepted, run}
 
 pub data Case : Type 0 where
   -- a load, the store's triples, the findings' records, and what the run gives
   model : List Triple → ℕ → ℕ → Outcome → Case
+  -- a load, the store's triples, and the whole closure, zero triples among it
+  whole : List Triple → ℕ → List Triple → Case
   -- a local name of the rdf namespace, and whether it is a container property's
   name : String → Bool → Case
 
@@ -23,6 +26,7 @@ no-containers = record { is = λ p. false; property = 36; membership = 37; membe
 
 abbrev pub Holds : Case → Type 0
 Holds (model load cap fcap o) = run no-containers cap fcap load ≡ o
+Holds (whole load cap ts) = closure no-containers (suc cap) load ≡ ts
 Holds (name s b) = is-container-term 1 (text "http://www.w3.org/1999/02/22-rdf-syntax-ns#" ++ text s) ≡ b
 
 abbrev pub AllHold : List Case → Type 0
@@ -42,6 +46,9 @@ cases =
     -- 16 in the closure, 14 in the answer
     model (triple 31 1 19 ∷ triple 32 31 33 ∷ triple 34 31 35 ∷ []) 16 0
     (accepted (triple 9 1 9 ∷ triple 9 1 30 ∷ triple 10 1 9 ∷ triple 10 1 30 ∷ triple 31 1 9 ∷ triple 31 1 19 ∷ triple 32 1 9 ∷ triple 32 31 33 ∷ triple 33 1 9 ∷ triple 33 11 33 ∷ triple 34 1 9 ∷ triple 34 31 35 ∷ triple 35 1 9 ∷ triple 35 11 35 ∷ []) [] 14 (0 ∷ 0 ∷ 0 ∷ 0 ∷ 0 ∷ [])) ∷
+    -- 0 0 0 and 0 1 9 among the 16
+    whole (triple 31 1 19 ∷ triple 32 31 33 ∷ triple 34 31 35 ∷ []) 16
+    (triple 0 0 0 ∷ triple 0 1 9 ∷ triple 9 1 9 ∷ triple 9 1 30 ∷ triple 10 1 9 ∷ triple 10 1 30 ∷ triple 31 1 9 ∷ triple 31 1 19 ∷ triple 32 1 9 ∷ triple 32 31 33 ∷ triple 33 1 9 ∷ triple 33 11 33 ∷ triple 34 1 9 ∷ triple 34 31 35 ∷ triple 35 1 9 ∷ triple 35 11 35 ∷ []) ∷
     -- a store of 15 is refused
     model (triple 31 1 19 ∷ triple 32 31 33 ∷ triple 34 31 35 ∷ []) 15 0 store-full ∷
     -- inverse functional: 32 11 34

@@ -10,6 +10,7 @@ use Rattle.term_layout.specs.Layout.{Dict, dict}
 use Rattle.term_layout.specs.Dictionary.{if-zero, Lookup-answer, lookup-answer, valid}
 use Rattle.term_layout.specs.Calls.{lookup-gives}
 use Rattle.term_entries.specs.Entries.{start-of, length-of, kind-of}
+use Rattle.index.specs.Values.{part-begins}
 use Rattle.index.proofs.Looking.{look-12, look-known, look-1}
 use Rattle.byte_numbers.specs.Bytes.{numbers-of, read-buffer}
 use Rattle.entry.specs.Calls.{Place-answer, place-answer, place-gives, Places}
@@ -21,7 +22,7 @@ abbrev place : Dict → ℕ → Lookup-answer → Place-answer
 place d i r = place-answer (r .number) (r .kind) (if-zero (r .number) (λ _. start-of (d .table) i) (λ _. 0)) (length (r .part))
 
 by-answer : (d : Dict) (i : ℕ) (r : Lookup-answer) (p : Place-answer) → r ≡ lookup-gives d i → p ≡ place d i r → take (p .len) (drop (p .begin) (d .arena)) ≡ r .part → Places d i p
-unfolding place-gives
+unfolding place-gives part-begins
 by-answer d i r p e q z = record { answers = q ∙ ap (place d i) e; lies = z ∙ ap (λ (x : Lookup-answer). x .part) e }
 
 -- a refusal

@@ -7,9 +7,8 @@ use Prim.Native.Nat.{ℕ, _+_, _*_, _/_, _%_, _≤_}
 use lib.ListN.{length, take, drop}
 use Rattle.term_layout.specs.Terms.{Term}
 use Rattle.term_layout.specs.Layout.{Dict, dict}
-use Rattle.term_layout.specs.Dictionary.{if-zero}
-use Rattle.term_entries.specs.Entries.{start-of}
 use Rattle.term_layout.specs.Calls.{Start-result, start-result, start-gives, Put-result, put-result, put-gives, lookup-gives}
+use Rattle.index.specs.Values.{part-begins}
 use Rattle.loads.specs.Shown.{Lent, lent}
 use Rattle.reasoner.specs.Run.{Run-result, run-gives}
 use Rattle.byte_numbers.specs.Bytes.{read-buffer, left-bytes, handed}
@@ -49,9 +48,7 @@ place-answer n k i l = record { number = n; kind = k; begin = i; len = l }
 
 -- in a dictionary of numbers
 unfoldable pub place-gives : Dict → ℕ → Place-answer
-place-gives d i =
-    let r = lookup-gives d i in
-    place-answer (r .number) (r .kind) (if-zero (r .number) (λ _. start-of (d .table) i) (λ _. 0)) (length (r .part))
+place-gives d i = let r = lookup-gives d i in place-answer (r .number) (r .kind) (part-begins d i) (length (r .part))
 
 -- the answer p to a lookup of the id i, and that the term's bytes lie there
 pub record Places (d : Dict) (i : ℕ) (p : Place-answer) : Type 0 where

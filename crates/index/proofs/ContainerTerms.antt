@@ -142,7 +142,7 @@ module _ (kind : ℕ) (bytes : List ℕ) where
       go (no n) = omega arith
 
 -- THE TERM OF AN ID, by where it lies
-pub container-located : (d : Dict) → T (valid d) → (i : ℕ) (r : Located) → Locates r (d .arena) (lookup-gives d i) → is-container-term (r .kind) (take (r .end - r .start) (drop (r .start) (d .arena))) ≡ is-container-term (term-of (decode d) i .kind) (term-of (decode d) i .bytes)
+pub container-located : (d : Dict) → T (valid d) → (i : ℕ) (r : Located) → Locates r d i → is-container-term (r .kind) (take (r .end - r .start) (drop (r .start) (d .arena))) ≡ is-container-term (term-of (decode d) i .kind) (term-of (decode d) i .bytes)
 unfolding is-container-term
 container-located d v i r l = ap (λ (a : Lookup-answer). is-container-term (a .kind) (a .part)) (l .answers ∙ lookup-valid d i v) ∙ go (native.Mathlib.Decide.decLt i (length (decode d)))
   where

@@ -7,10 +7,11 @@ use lib.Dec.{T, ltb, ltb→lt, lt→ltb}
 use lib.ListN.{length, take, drop}
 use Rattle.term_layout.specs.Terms.{Term}
 use Rattle.term_layout.specs.Layout.{Dict, decode}
-use Rattle.term_layout.specs.Dictionary.{lookup-answer, term-of, reckon-lookup, valid}
+use Rattle.term_layout.specs.Dictionary.{if-zero, Lookup-answer, lookup-answer, term-of, reckon-lookup, valid}
 use Rattle.term_layout.specs.Calls.{lookup-gives}
 use Rattle.term_entries.specs.Entries.{start-of, length-of, kind-of}
-use Rattle.index.specs.Values.{Locates}
+use Rattle.index.specs.declared.values.Located.{Located}
+use Rattle.index.specs.Values.{located, part-begins, further, Locates, Looks-up}
 use Rattle.term_layout.proofs.Choice.{if-yes, if-no}
 use Rattle.term_layout.proofs.Reachable.{lookup-valid, lookup-broken}
 use Rattle.index.proofs.Cases.{answers}
@@ -25,24 +26,34 @@ module _ (ts : List Term) (i : ℕ) where
   unfolding reckon-lookup
   reckon-known h = if-yes (ltb i (length ts)) (λ _. lookup-answer 0 (term-of ts i .kind) (term-of ts i .bytes)) (λ _. lookup-answer 12 0 []) (lt→ltb i (length ts) h)
 
+-- where the part begins, by the number of the answer
+by-number : (d : Dict) (i : ℕ) {a : Lookup-answer} → a ≡ lookup-gives d i → if-zero (a .number) (λ _. start-of (d .table) i) (λ _. 0) ≡ part-begins d i
+unfolding part-begins
+by-number d i e = ap (λ (a : Lookup-answer). if-zero (a .number) (λ _. start-of (d .table) i) (λ _. 0)) e
+
 module _ (d : Dict) (v : T (valid d)) (i : ℕ) where
   -- no such id
-  pub look-12 : d .terms ≤ i → Locates (record { number = 12; kind = 0; start = 0; end = 0 }) (d .arena) (lookup-gives d i)
-  look-12 h = record { answers = sym (lookup-valid d i v ∙ reckon-12 (decode d) i (omega (arith, count d v))); ordered = omega arith; within = omega arith }
+  pub look-12 : d .terms ≤ i → Locates (record { number = 12; kind = 0; start = 0; end = 0 }) d i
+  look-12 h =
+      let e = sym (lookup-valid d i v ∙ reckon-12 (decode d) i (omega (arith, count d v))) in
+      record { answers = e; begins = by-number d i e; ordered = omega arith; within = omega arith }
 
   -- the part that the entry names
-  pub look-known : i < d .terms → Locates (record { number = 0; kind = kind-of (d .table) i; start = start-of (d .table) i; end = start-of (d .table) i + length-of (d .table) i }) (d .arena) (lookup-gives d i)
+  pub look-known : i < d .terms → Locates (record { number = 0; kind = kind-of (d .table) i; start = start-of (d .table) i; end = start-of (d .table) i + length-of (d .table) i }) d i
   look-known h =
       let q : start-of (d .table) i + length-of (d .table) i - start-of (d .table) i ≡ length-of (d .table) i = omega arith in
-      let e = entry-names d v i h in
-      record {
-        answers =
-            ap (λ (n : ℕ). lookup-answer 0 (kind-of (d .table) i) (take n (drop (start-of (d .table) i) (d .arena)))) q
-            ∙ (ap (λ (t : Term). lookup-answer 0 (t .kind) (t .bytes)) e ∙ sym (lookup-valid d i v ∙ reckon-known (decode d) i (omega (arith, count d v))));
-        ordered = omega arith;
-        within = entry-fits d v i h .part;
-      }
+      let e =
+      ap (λ (n : ℕ). lookup-answer 0 (kind-of (d .table) i) (take n (drop (start-of (d .table) i) (d .arena)))) q
+      ∙ (ap (λ (t : Term). lookup-answer 0 (t .kind) (t .bytes)) (entry-names d v i h)
+      ∙ sym (lookup-valid d i v ∙ reckon-known (decode d) i (omega (arith, count d v)))) in
+      record { answers = e; begins = by-number d i e; ordered = omega arith; within = entry-fits d v i h .part }
 
 -- a broken dictionary
-pub look-1 : (d : Dict) (i : ℕ) → (T (valid d) → ⊥) → Locates (record { number = 1; kind = 0; start = 0; end = 0 }) (d .arena) (lookup-gives d i)
-look-1 d i n = record { answers = sym (lookup-broken d i n); ordered = omega arith; within = omega arith }
+pub look-1 : (d : Dict) (i : ℕ) → (T (valid d) → ⊥) → Locates (record { number = 1; kind = 0; start = 0; end = 0 }) d i
+look-1 d i n =
+    let e = sym (lookup-broken d i n) in
+    record { answers = e; begins = by-number d i e; ordered = omega arith; within = omega arith }
+
+-- the part that was cut out where it was located
+pub looked-up : {place : Located} {d : Dict} {i : ℕ} {answer : Lookup-answer} {p q : ℕ × ℕ} → Locates place d i → answer ≡ located place (d .arena) → q ≡ further p (place .start) → Looks-up answer p q d i
+looked-up {p = p} l e f = record { answers = e ∙ l .answers; lies = f ∙ ap (further p) (l .begins) }

@@ -1,15 +1,17 @@
 -- The answers that values of the types of src/ stand for. Assumes nothing.
 use mathlib.Core.Path.{_≡_}
 use mathlib.Core.List.{List}
-use Prim.Native.Nat.{ℕ, _-_, _≤_}
+use Prim.Native.Nat.{ℕ, _+_, _-_, _≤_}
 use lib.ListN.{length, take, drop}
 use Rattle.term_layout.specs.declared.values.Counters.{Counters}
 use Rattle.index.specs.declared.values.Located.{Located}
 use Rattle.index.specs.declared.values.Put.{Put}
 use Rattle.index.specs.declared.values.PutNext.{PutNext}
 use Rattle.index.specs.declared.values.Started.{Started}
-use Rattle.term_layout.specs.Dictionary.{Lookup-answer, lookup-answer}
-use Rattle.term_layout.specs.Calls.{Start-result, start-result, Put-result, put-result}
+use Rattle.term_layout.specs.Layout.{Dict}
+use Rattle.term_layout.specs.Dictionary.{if-zero, Lookup-answer, lookup-answer}
+use Rattle.term_layout.specs.Calls.{Start-result, start-result, Put-result, put-result, lookup-gives}
+use Rattle.term_entries.specs.Entries.{start-of}
 use Rattle.term_layout.specs.Values.{contents}
 
 -- the answer of a start, with the table and the arena as they are left
@@ -28,7 +30,22 @@ put-lent r t a c = put-result (r .number) (r .id .0) (contents t a c)
 abbrev pub located : Located → List ℕ → Lookup-answer
 located r arena = lookup-answer (r .number) (r .kind) (take (r .end - r .start) (drop (r .start) arena))
 
-pub record Locates (r : Located) (arena : List ℕ) (answer : Lookup-answer) : Type 0 where
-  pub answers : located r arena ≡ answer
+-- where the part of a lookup begins in the arena: at the start that the id's entry names; the empty part of a refusal at 0
+unfoldable pub part-begins : Dict → ℕ → ℕ
+part-begins d i = if-zero (lookup-gives d i .number) (λ _. start-of (d .table) i) (λ _. 0)
+
+-- the pointer, a block and an offset, of what lies n bytes after p
+abbrev pub further : ℕ × ℕ → ℕ → ℕ × ℕ
+further p n = (p .0, n + p .1)
+
+-- r says where the part of a lookup of the id i lies
+pub record Locates (r : Located) (d : Dict) (i : ℕ) : Type 0 where
+  pub answers : located r (d .arena) ≡ lookup-gives d i
+  pub begins : r .start ≡ part-begins d i
   pub ordered : r .start ≤ r .end
-  pub within : r .end ≤ length arena
+  pub within : r .end ≤ length (d .arena)
+
+-- the answer of a lookup, and that its part, at the pointer q, is the one of the arena, at the pointer p, that holds the term's bytes
+pub record Looks-up (answer : Lookup-answer) (p q : ℕ × ℕ) (d : Dict) (i : ℕ) : Type 0 where
+  pub answers : answer ≡ lookup-gives d i
+  pub lies : q ≡ further p (part-begins d i)

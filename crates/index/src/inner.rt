@@ -9,12 +9,13 @@ use term_layout::hash::digest;
 ghost use mathlib.Core.Path.{_≡_};
 ghost use Prim.Native.Nat.{_≤_};
 ghost use lib.Dec.{T};
+ghost use denote.Ref.{ptr};
 ghost use lib.ListN.{length};
 ghost use Rattle.term_layout.specs.Terms.{term};
 ghost use Rattle.term_layout.specs.Dictionary.{valid, lookup-answer};
-ghost use Rattle.term_layout.specs.Calls.{put-gives, lookup-gives};
+ghost use Rattle.term_layout.specs.Calls.{put-gives};
 ghost use Rattle.term_layout.specs.Values.{contents};
-ghost use Rattle.index.specs.Values.{put-left, located, Locates};
+ghost use Rattle.index.specs.Values.{put-left, located, further, Locates, Looks-up};
 
 // A refusal leaves the counters as they are.
 pub fn refused(number: u32, counters: Counters) -> PutNext
@@ -72,7 +73,7 @@ pub fn put_valid(
 // Where the term of an id lies.
 pub fn locate(table: &[u32], arena: &[u8], counters: Counters, id: Id) -> Located
     requires { ⌜ T (valid (contents (now table) (now arena) counters)) ⌝ }
-    ensures { λ r. ⌜ Locates r (now (arena .entry)) (lookup-gives (contents (now (table .entry)) (now (arena .entry)) counters) (id .0)) ⌝ }
+    ensures { λ r. ⌜ Locates r (contents (now (table .entry)) (now (arena .entry)) counters) (id .0) ⌝ }
 {
     if counters.terms <= id.0 {
         return Located {
@@ -97,6 +98,7 @@ pub fn locate(table: &[u32], arena: &[u8], counters: Counters, id: Id) -> Locate
 pub fn part<'a>(arena: &'a [u8], place: Located, number: &mut u32, kind: &mut u32) -> &'a [u8]
     requires { ⌜ (place .start ≤ place .end) × (place .end ≤ length (now arena)) ⌝ }
     ensures { λ r. ⌜ lookup-answer (now (number .exit)) (now (kind .exit)) (now r) ≡ located place (now (arena .entry)) ⌝ }
+    ensures { λ r. ⌜ ptr r ≡ further (ptr (arena .entry)) (place .start) ⌝ }
 {
     *number = place.number;
     *kind = place.kind;
@@ -115,7 +117,7 @@ pub fn lookup_valid<'a>(
     kind: &mut u32,
 ) -> &'a [u8]
     requires { ⌜ T (valid (contents (now table) (now arena) counters)) ⌝ }
-    ensures { λ r. ⌜ lookup-answer (now (number .exit)) (now (kind .exit)) (now r) ≡ lookup-gives (contents (now (table .entry)) (now (arena .entry)) counters) (id .0) ⌝ }
+    ensures { λ r. ⌜ Looks-up (lookup-answer (now (number .exit)) (now (kind .exit)) (now r)) (ptr (arena .entry)) (ptr r) (contents (now (table .entry)) (now (arena .entry)) counters) (id .0) ⌝ }
 {
     let place = locate(table, arena, counters, id);
     part(arena, place, number, kind)

@@ -21,11 +21,12 @@ pub use values::Put;
 pub use values::PutNext;
 pub use values::Started;
 ghost use mathlib.Core.Path.{_≡_};
+ghost use denote.Ref.{ptr};
 ghost use Rattle.term_layout.specs.Terms.{term};
 ghost use Rattle.term_layout.specs.Dictionary.{lookup-answer};
-ghost use Rattle.term_layout.specs.Calls.{start-gives, put-gives, lookup-gives};
+ghost use Rattle.term_layout.specs.Calls.{start-gives, put-gives};
 ghost use Rattle.term_layout.specs.Values.{contents};
-ghost use Rattle.index.specs.Values.{start-left, put-left, put-lent, Locates};
+ghost use Rattle.index.specs.Values.{start-left, put-left, put-lent, Locates, Looks-up};
 
 // Starts a dictionary in any table and arena that are well sized and large enough.
 pub fn start(table: &mut [u32], arena: &mut [u8]) -> Started
@@ -83,7 +84,7 @@ pub fn put(
 
 // Where the term of an id lies, or a refusal.
 fn find_part(table: &[u32], arena: &[u8], counters: Counters, id: Id) -> Located
-    ensures { λ r. ⌜ Locates r (now (arena .entry)) (lookup-gives (contents (now (table .entry)) (now (arena .entry)) counters) (id .0)) ⌝ }
+    ensures { λ r. ⌜ Locates r (contents (now (table .entry)) (now (arena .entry)) counters) (id .0) ⌝ }
 {
     if is_valid(table, arena, counters) {
         return locate(table, arena, counters, id);
@@ -105,7 +106,7 @@ pub fn lookup<'a>(
     number: &mut u32,
     kind: &mut u32,
 ) -> &'a [u8]
-    ensures { λ r. ⌜ lookup-answer (now (number .exit)) (now (kind .exit)) (now r) ≡ lookup-gives (contents (now (table .entry)) (now (arena .entry)) counters) (id .0) ⌝ }
+    ensures { λ r. ⌜ Looks-up (lookup-answer (now (number .exit)) (now (kind .exit)) (now r)) (ptr (arena .entry)) (ptr r) (contents (now (table .entry)) (now (arena .entry)) counters) (id .0) ⌝ }
 {
     let place = find_part(table, arena, counters, id);
     part(arena, place, number, kind)

@@ -1,6 +1,6 @@
 -- `index::inner::lookup_valid` meets its contract. Assumes nothing.
-use mathlib.Core.Path.{_∙_}
 use borrow.Author.Needs.{needs}
+use Rattle.index.proofs.Looking.{looked-up}
 use Rattle.index.proofs.inner.lookup_valid.Statement.{statement}
 use Rattle.index.proofs.inner.lookup_valid.Tie as tie
 
@@ -11,7 +11,7 @@ part-requires : tie.Need-part-requires
 part-requires c κs = search needs
 
 returns : tie.Need-returns
-returns c = c .part .ensures ∙ c .before .before .before .locate .ensures .answers
+returns c = looked-up (c .before .before .before .locate .ensures) (c .part .ensures .0) (c .part .ensures .1)
 
 pub lookup-valid-spec : {M : Type 1} → statement M
 lookup-valid-spec = tie.close (tie.spec locate-requires part-requires returns)
