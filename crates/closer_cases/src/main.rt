@@ -4,6 +4,7 @@ use closer_input::input::find;
 use closer_input::output::put_bytes;
 use closer_input::output::put_line;
 use closer_run::close_input;
+use closer_run::close_read;
 ghost use mathlib.Core.Path.{_≡_};
 ghost use Prim.Native.Nat.{_+_, _*_, _≤_, _<_};
 ghost use lib.ListN.{length};
@@ -92,7 +93,7 @@ fn refusals() {
 
 // Writes so many lines of three ids: in each the object is the subject and 1, and the subject of the next line.
 fn put_lines(first: u32, p: u32, lines: u32, text: &mut [u8], at: usize) -> usize
-    requires { ⌜ (first + lines < 100000) × (at + 33 * lines ≤ length (now text)) ⌝ }
+    requires { ⌜ (first + lines < 4294967296) × (at + 33 * lines ≤ length (now text)) ⌝ }
     ensures { λ r. ⌜ r ≤ at + 33 * lines ⌝ }
 {
     let mut to = at;
@@ -140,6 +141,18 @@ fn repeated(again: u32)
     counted(&text[..end]);
 }
 
+// The first n bytes of the longest good input, 1,000 lines of ids of ten digits, and of a further line, as `main` reads them.
+fn longest(n: usize)
+    requires { ⌜ n ≤ 33005 ⌝ }
+{
+    let mut text = [49u8; closer_run::INPUT];
+    let mut out = [0u8; closer_input::OUTPUT];
+    let count = put_bytes(b"500\n", &mut text, 0);
+    put_lines(4294966295, 4294967295, 1000, &mut text, count);
+    let end = close_read(&text, n, &mut out);
+    io::write_all(1, &out[..end]);
+}
+
 fn limits() {
     chain(61, 0, b"");
     chain(61, 22, b"");
@@ -149,6 +162,11 @@ fn limits() {
     clashes(401);
     repeated(2);
     repeated(3);
+    // whole, without its last line feed, with a line too many, and ended within the second id of its last line
+    longest(33004);
+    longest(33003);
+    longest(33005);
+    longest(32990);
 }
 
 fn main() {

@@ -19,10 +19,6 @@ const LINES: usize = 1000;
 // How many ids they have.
 pub const IDS: usize = 3 * LINES;
 
-// One byte more than the longest good input has, which is 4 bytes for the count and 33 for each id line: so many decide as much as the
-// whole input (proofs/Longest.antt, parse-cut).
-pub const INPUT: usize = 33005;
-
 // The first place from `at` on that has the byte, or the length where none has.
 pub fn find(bytes: &[u8], at: usize, byte: u8) -> usize
     requires { ⌜ at ≤ length (now bytes) ⌝ }

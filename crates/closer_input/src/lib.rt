@@ -3,7 +3,6 @@ pub mod input; // input.rt: the count and the id lines
 pub mod output; // output.rt: lines of numbers, and the program's four outputs
 
 pub use input::IDS;
-pub use input::INPUT;
 pub use input::Parsed;
 pub use input::parse;
 pub use output::FINDINGS;

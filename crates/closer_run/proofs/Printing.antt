@@ -138,6 +138,10 @@ pub output-cut : (text : List ℕ) → output (take 33005 text) ≡ output text
 unfolding output
 output-cut text = ap printed (parse-cut text)
 
+-- as many bytes as were read, or all where there is room for more
+pub output-read : (room : List ℕ) (n : ℕ) (text : List ℕ) → length room ≡ 33005 → take n room ≡ take (length room) text → output (take n room) ≡ output text
+output-read room n text l e = ap output (e ∙ ap (λ (k : ℕ). take k text) l) ∙ output-cut text
+
 -- other bytes that are the same
 pub wrote-as : {old bytes bytes' new : List ℕ} {next : ℕ} → bytes ≡ bytes' → Wrote old 0 bytes new next → Wrote old 0 bytes' new next
 wrote-as {old} {new = new} {next = next} e w = subst (λ (b : List ℕ). Wrote old 0 b new next) e w

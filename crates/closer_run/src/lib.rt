@@ -15,12 +15,16 @@ use reasoner::RunAnswer;
 use reasoner::run;
 ghost use mathlib.Core.Path.{_≡_};
 ghost use Prim.Native.Nat.{_≤_};
-ghost use lib.ListN.{length};
+ghost use lib.ListN.{length, take};
 ghost use Rattle.common.specs.Closure.{total as sum};
 ghost use Rattle.term_layout.specs.Values.{contents};
 ghost use Rattle.decimal.specs.Contracts.{Wrote};
 ghost use Rattle.closer_run.specs.Program.{named, ran, printed-run, output};
-ghost use Rattle.closer_run.specs.Contracts.{Ran};
+ghost use Rattle.closer_run.specs.Contracts.{Ran, Printed};
+
+// How many bytes the program reads: one more than the longest good input has, which is 4 bytes for the count and 33 for each of 1,000
+// lines. So many decide as much as the whole input, as `close_read` promises.
+pub const INPUT: usize = 33005;
 
 // The start's 31 terms, 500 names and the run's three fit into 600 entries, and their bytes, under 6,000, into the arena.
 const ENTRIES: usize = 600;
@@ -106,4 +110,20 @@ pub fn close_input(input: &[u8], out: &mut [u8]) -> usize
             print_run(count, &ids[..end], out)
         }
     }
+}
+
+// The same for the first n bytes of what was read.
+fn close_first(read: &[u8], n: usize, out: &mut [u8]) -> usize
+    requires { ⌜ (n ≤ length (now read)) × (88033 ≤ length (now out)) ⌝ }
+    ensures { λ r. ⌜ Wrote (now (out .entry)) 0 (output (take n (now (read .entry)))) (now (out .exit)) r ⌝ }
+{
+    close_input(&read[..n], out)
+}
+
+// The same for an input of which the first n bytes of `read` are all, or as many as there is room for.
+pub fn close_read(read: &[u8; INPUT], n: usize, out: &mut [u8]) -> usize
+    requires { ⌜ (n ≤ length (now read)) × (88033 ≤ length (now out)) ⌝ }
+    ensures { λ r. ⌜ Printed (now (read .entry)) n (now (out .entry)) (now (out .exit)) r ⌝ }
+{
+    close_first(read, n, out)
 }
