@@ -3,7 +3,7 @@
 -- else 4." Assumes nothing.
 use mathlib.Core.Bool.{Bool, _||_}
 use mathlib.Core.List.{List, [], _∷_}
-use Prim.Native.Nat.{ℕ, _+_, _*_, _/_, _%_}
+use Prim.Native.Nat.{ℕ, _+_, _*_, _/_, _%_, _<_}
 use lib.Dec.{leb, eqb}
 use lib.ListN.{length, replicate}
 use Rattle.common.specs.Triples.{if}
@@ -19,6 +19,11 @@ numbers-of (a ∷ b ∷ c ∷ d ∷ l) = (a + 256 * b + 65536 * c + 16777216 * d
 unfoldable pub bytes-of : List ℕ → List ℕ
 bytes-of [] = []
 bytes-of (n ∷ l) = (n % 256) ∷ (n / 256 % 256) ∷ (n / 65536 % 256) ∷ (n / 16777216 % 256) ∷ bytes-of l
+
+-- every number of a list is below 2 ^ 32, so that four bytes hold it: such numbers are read back from their bytes
+abbrev pub Fit-bytes : List ℕ → Type 0
+Fit-bytes [] = Unit {0}
+Fit-bytes (n ∷ l) = (n < 4294967296) × Fit-bytes l
 
 -- The numbers of a buffer. One whose length is no multiple of 4 is read as a single number: of that length a load is refused with 2, a
 -- table after the start with 1, and a table at a start, a store, findings and a list work buffer with 4.

@@ -8,7 +8,8 @@ use native.Mathlib.Omega.{arith}
 use lib.Dec.{T, ltb, eqb, ltb→lt}
 use lib.ListN.{length, getD, List·getD-append}
 use Rattle.loads.specs.Shown.{Lent, Run-answer, shown, containers, closed}
-use Rattle.reasoner.specs.Run.{first-met, run-stops, Run-reckoned, run-brought, run-passed, reckon-run}
+use Rattle.reasoner.specs.Run.{Run-reckoned, run-brought, run-passed, reckon-run}
+use Rattle.run_refusals.specs.Stops.{first-met, run-stops}
 use Rattle.term_layout.specs.Terms.{Term, no-term, property-term, membership-term, member-term, run-terms}
 use Rattle.term_layout.specs.Dictionary.{place-from, id-of, Brought, full, brought, bring}
 use Rattle.common.specs.Triples.{Triple, Finding, In, here, there}
@@ -20,7 +21,7 @@ use Rattle.common.specs.Rows.{triples}
 use Rattle.common.proofs.Lists.{in-nil, in-cons, and←}
 use Rattle.common.proofs.Run.{same-dictionary}
 use Rattle.reasoner.proofs.Bringing.{Grown, grown-none, grown-trans, grown-length, put-grows, bring-grows, place-kept, Has, bring-has}
-use Rattle.reasoner.proofs.Refusing.{all-in}
+use Rattle.run_refusals.proofs.Refusing.{all-in}
 use Rattle.calls.specs.Calls.{Call, put, lookup, run-on, run-gave, reckon, Event, event, events-of, terms-after}
 use Rattle.reasoner.proofs.Accepting.{AcceptedRun, run-accepted}
 

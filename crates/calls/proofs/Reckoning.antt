@@ -5,7 +5,8 @@ use Prim.Native.Nat.{ℕ, zero, suc}
 use native.Mathlib.Omega.{arith}
 use lib.ListN.{length}
 use Rattle.loads.specs.Shown.{Lent}
-use Rattle.reasoner.specs.Run.{unchanged, first-met, run-stops, run-brought, run-passed, reckon-run, Run-result, run-laid, run-gives}
+use Rattle.reasoner.specs.Run.{unchanged, run-brought, run-passed, reckon-run, Run-result, run-laid, run-gives}
+use Rattle.run_refusals.specs.Stops.{first-met, run-stops}
 use Rattle.term_layout.specs.Terms.{Term, start-terms, run-terms}
 use Rattle.term_layout.specs.Layout.{Dict, layout}
 use Rattle.term_layout.specs.Dictionary.{reckon-put, Brought, full, brought, if-zero, bring, Lookup-answer, lookup-answer, reckon-lookup}

@@ -9,7 +9,8 @@ use native.Mathlib.Omega.{arith}
 use lib.Dec.{T, ltb, ltb→lt}
 use lib.ListN.{length}
 use Rattle.loads.specs.Shown.{Lent, shown, closed}
-use Rattle.reasoner.specs.Run.{Stop, first-met, run-stops, run-brought, run-passed, reckon-run}
+use Rattle.reasoner.specs.Run.{run-brought, run-passed, reckon-run}
+use Rattle.run_refusals.specs.Stops.{Stop, first-met, run-stops}
 use Rattle.term_layout.specs.Terms.{Term, run-terms}
 use Rattle.term_layout.specs.Dictionary.{place-from, kind-known, short, roomy, put-answer, put-at, reckon-put, Brought, full, brought, bring, Lookup-answer, lookup-answer, term-of, reckon-lookup}
 use Rattle.common.specs.Triples.{In, if}

@@ -21,7 +21,8 @@ use Rattle.term_layout.proofs.Holding.{Added, put-cases, Holds, holds-start, ho
 use Rattle.term_layout.proofs.Reachable.{start-accepts, on-layout}
 use Rattle.run_terms.proofs.Running.{put-on}
 use Rattle.loads.specs.Shown.{Lent, lent, Run-answer, shown, closed}
-use Rattle.reasoner.specs.Run.{Run-result, unchanged, stop, first-met, run-stops, run-brought, run-passed, reckon-run, run-laid, run-gives}
+use Rattle.reasoner.specs.Run.{Run-result, unchanged, run-brought, run-passed, reckon-run, run-laid, run-gives}
+use Rattle.run_refusals.specs.Stops.{stop, first-met, run-stops}
 use Rattle.decimal.specs.Decimal.{digits}
 use Rattle.closer_input.specs.Input.{on, id, three-ids, fields, id-line, id-lines, count-line, lines, read-lines, reading, read, bad-line, input, parse}
 use Rattle.closer_input.specs.Output.{name}

@@ -18,7 +18,7 @@ ghost use Rattle.common.specs.Values.{triple-of};
 ghost use Rattle.disjoint_sets.specs.Places.{place-of, TermRoom};
 ghost use Rattle.disjoint_sets.specs.Forest.{Forest};
 ghost use Rattle.disjoint_sets.specs.Groups.{Ends, Tried, StartRows, Agrees, row-graph, head-of};
-ghost use Rattle.disjoint_sets.specs.Lists.{first-key, ListableRow, both-entered, Listable, Listed};
+ghost use Rattle.disjoint_sets.specs.Lists.{first-key, member-key, ListableRow, both-entered, Listable, Listed};
 
 // The blocks of the index buffer with the chains of rdf:first rows, behind the store's own: by the group of their subject, and by
 // their object.
@@ -72,13 +72,21 @@ fn key(t: Triple, x: Id) -> usize
     wide(x.0)
 }
 
+// The key by which a list's group finds its members: the group of the cell that has one.
+fn member_key(work: &[u32], t: Triple) -> usize
+    requires { ⌜ place-of (triple-of t .s) + 1 < length (now work) ⌝ }
+    ensures { λ r. ⌜ r ≡ member-key (now (work .entry)) (triple-of t) ⌝ }
+{
+    let head = realhead(work, t.s);
+    key(t, head)
+}
+
 // Row j, which holds t, enters both chains.
 fn enter_row(ix: &mut [u32], work: &[u32], t: Triple, j: usize)
     requires { ⌜ ListableRow (now ix) (now work) (triple-of t) j ⌝ }
     ensures { λ _. ⌜ now (ix .exit) ≡ both-entered (now (ix .entry)) (now (work .entry)) (triple-of t) j ⌝ }
 {
-    let head = realhead(work, t.s);
-    enter(ix, MEMBERS, key(t, head), j);
+    enter(ix, MEMBERS, member_key(work, t), j);
     enter(ix, LISTS, key(t, t.o), j);
 }
 

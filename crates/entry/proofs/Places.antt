@@ -10,20 +10,16 @@ use Rattle.term_layout.specs.Layout.{Dict, dict}
 use Rattle.term_layout.specs.Dictionary.{if-zero, Lookup-answer, lookup-answer, valid}
 use Rattle.term_layout.specs.Calls.{lookup-gives}
 use Rattle.term_entries.specs.Entries.{start-of, length-of, kind-of}
-use Rattle.index.specs.Values.{part-begins}
 use Rattle.index.proofs.Looking.{look-12, look-known, look-1}
 use Rattle.byte_numbers.specs.Bytes.{numbers-of, read-buffer}
-use Rattle.entry.specs.Calls.{Place-answer, place-answer, place-gives, Places}
+use Rattle.entry.specs.Calls.{Place-answer, place-answer, place-at, place-gives, Places}
 use Rattle.entry.proofs.Handing.{Handed}
 use Rattle.entry.proofs.Tables.{dict-alike}
 
 -- from the answer of a lookup to its place
-abbrev place : Dict → ℕ → Lookup-answer → Place-answer
-place d i r = place-answer (r .number) (r .kind) (if-zero (r .number) (λ _. start-of (d .table) i) (λ _. 0)) (length (r .part))
-
-by-answer : (d : Dict) (i : ℕ) (r : Lookup-answer) (p : Place-answer) → r ≡ lookup-gives d i → p ≡ place d i r → take (p .len) (drop (p .begin) (d .arena)) ≡ r .part → Places d i p
-unfolding place-gives part-begins
-by-answer d i r p e q z = record { answers = q ∙ ap (place d i) e; lies = z ∙ ap (λ (x : Lookup-answer). x .part) e }
+by-answer : (d : Dict) (i : ℕ) (r : Lookup-answer) (p : Place-answer) → r ≡ lookup-gives d i → p ≡ place-at (start-of (d .table) i) r → take (p .len) (drop (p .begin) (d .arena)) ≡ r .part → Places d i p
+unfolding place-gives
+by-answer d i r p e q z = record { answers = q ∙ ap (place-at (start-of (d .table) i)) e; lies = z ∙ ap (λ (x : Lookup-answer). x .part) e }
 
 -- a refusal
 none : (d : Dict) (i m : ℕ) → lookup-answer m 0 [] ≡ lookup-gives d i → if-zero m (λ _. start-of (d .table) i) (λ _. 0) ≡ 0 → Places d i (place-answer m 0 0 0)

@@ -11,8 +11,8 @@ use borrow.Author.Tests.{eq-eqb, ne-eqb, lt-ltb, le-ltb, eqb-true, eqb-false}
 use Rattle.common.specs.Triples.{if}
 use Rattle.common.specs.Table.{all}
 use Rattle.loads.specs.Shown.{Lent, lent}
-use Rattle.reasoner.specs.Run.{Stop, stop, first-met, run-stops}
-use Rattle.reasoner.proofs.Refusing.{Unmet, unmet-all, not-not}
+use Rattle.run_refusals.specs.Stops.{Stop, stop, first-met, run-stops}
+use Rattle.run_refusals.proofs.Refusing.{Unmet, unmet-all, not-not}
 use Rattle.byte_numbers.specs.Bytes.{numbers-of, read-buffer, changes, handed}
 use Rattle.entry.specs.Calls.{read-lent, Handed-on}
 use Rattle.entry.proofs.Handing.{Handed, whole, ragged, long, by-length}

@@ -15,7 +15,8 @@ use Rattle.term_layout.specs.Dictionary.{Brought, full, brought, bring, valid}
 use Rattle.term_layout.proofs.Choice.{if-yes, told-false, decide-bool}
 use Rattle.term_entries.proofs.Reading.{count, lengths}
 use Rattle.loads.specs.Shown.{Lent, lent, Run-answer, five-zeros, shown, containers, closed}
-use Rattle.reasoner.specs.Run.{unchanged, first-met, run-stops, Run-reckoned, run-passed, run-brought, reckon-run, Run-result, run-laid, run-gives}
+use Rattle.reasoner.specs.Run.{unchanged, Run-reckoned, run-passed, run-brought, reckon-run, Run-result, run-laid, run-gives}
+use Rattle.run_refusals.specs.Stops.{first-met, run-stops}
 use Rattle.reasoner.specs.Values.{run-left}
 use Rattle.reasoner.specs.declared.values.RunNext.{RunNext}
 use Rattle.reasoner.proofs.Running.{run-broken}

@@ -7,9 +7,11 @@ use Prim.Native.Nat.{ℕ, _+_, _*_, _/_, _%_, _≤_}
 use lib.ListN.{length, take, drop}
 use Rattle.term_layout.specs.Terms.{Term}
 use Rattle.term_layout.specs.Layout.{Dict, dict}
+use Rattle.term_layout.specs.Dictionary.{Lookup-answer}
+use Rattle.term_entries.specs.Entries.{start-of}
 use Rattle.term_layout.specs.Calls.{Start-result, start-result, start-gives, Put-result, put-result, put-gives, lookup-gives}
-use Rattle.index.specs.Values.{part-begins}
-use Rattle.loads.specs.Shown.{Lent, lent}
+use Rattle.index.specs.Values.{begin-at}
+use Rattle.loads.specs.Shown.{Lent, lent, Run-answer}
 use Rattle.reasoner.specs.Run.{Run-result, run-gives}
 use Rattle.byte_numbers.specs.Bytes.{read-buffer, left-bytes, handed}
 
@@ -46,9 +48,13 @@ pub record Place-answer : Type 0 where
 abbrev pub place-answer : ℕ → ℕ → ℕ → ℕ → Place-answer
 place-answer n k i l = record { number = n; kind = k; begin = i; len = l }
 
+-- the answer r of a lookup of a term whose bytes begin at n
+abbrev pub place-at : ℕ → Lookup-answer → Place-answer
+place-at n r = place-answer (r .number) (r .kind) (begin-at n r) (length (r .part))
+
 -- in a dictionary of numbers
 unfoldable pub place-gives : Dict → ℕ → Place-answer
-place-gives d i = let r = lookup-gives d i in place-answer (r .number) (r .kind) (part-begins d i) (length (r .part))
+place-gives d i = place-at (start-of (d .table) i) (lookup-gives d i)
 
 -- the answer p to a lookup of the id i, and that the term's bytes lie there
 pub record Places (d : Dict) (i : ℕ) (p : Place-answer) : Type 0 where
@@ -59,20 +65,19 @@ pub record Places (d : Dict) (i : ℕ) (p : Place-answer) : Type 0 where
 abbrev pub read-lent : Lent → Lent
 read-lent b = lent (read-buffer (b .load)) (read-buffer (b .store)) (read-buffer (b .findings)) (read-buffer (b .work))
 
+-- the answer a of a run that was lent the buffers b of bytes
+abbrev pub answer-in-bytes : Lent → Run-answer → Run-answer
+answer-in-bytes b a = record {
+  number = a .number;
+  count = a .count;
+  counts = a .counts;
+  store = left-bytes (a .number) (b .store) (a .store);
+  findings = left-bytes (a .number) (b .findings) (a .findings);
+  work = left-bytes (a .number) (b .work) (a .work);
+}
+
 abbrev pub run-in-bytes : List ℕ → Lent → Run-result → Run-result
-run-in-bytes table b r =
-    let a = r .answer in
-    record {
-      answer = record {
-        number = a .number;
-        count = a .count;
-        counts = a .counts;
-        store = left-bytes (a .number) (b .store) (a .store);
-        findings = left-bytes (a .number) (b .findings) (a .findings);
-        work = left-bytes (a .number) (b .work) (a .work);
-      };
-      contents = left-dict (a .number) table (r .contents);
-    }
+run-in-bytes table b r = record { answer = answer-in-bytes b (r .answer); contents = left-dict (r .answer .number) table (r .contents) }
 
 unfoldable pub run-bytes-give : Dict → Lent → Run-result
 run-bytes-give d b = run-in-bytes (d .table) b (run-gives (read-dict d) (read-lent b))

@@ -7,11 +7,11 @@ use lib.Dec.{T, ltb, ltb→lt, lt→ltb}
 use lib.ListN.{length, take, drop}
 use Rattle.term_layout.specs.Terms.{Term}
 use Rattle.term_layout.specs.Layout.{Dict, decode}
-use Rattle.term_layout.specs.Dictionary.{if-zero, Lookup-answer, lookup-answer, term-of, reckon-lookup, valid}
+use Rattle.term_layout.specs.Dictionary.{Lookup-answer, lookup-answer, term-of, reckon-lookup, valid}
 use Rattle.term_layout.specs.Calls.{lookup-gives}
 use Rattle.term_entries.specs.Entries.{start-of, length-of, kind-of}
 use Rattle.index.specs.declared.values.Located.{Located}
-use Rattle.index.specs.Values.{located, part-begins, further, Locates, Looks-up}
+use Rattle.index.specs.Values.{located, begin-at, part-begins, further, Locates, Looks-up}
 use Rattle.term_layout.proofs.Choice.{if-yes, if-no}
 use Rattle.term_layout.proofs.Reachable.{lookup-valid, lookup-broken}
 use Rattle.index.proofs.Cases.{answers}
@@ -27,9 +27,9 @@ module _ (ts : List Term) (i : ℕ) where
   reckon-known h = if-yes (ltb i (length ts)) (λ _. lookup-answer 0 (term-of ts i .kind) (term-of ts i .bytes)) (λ _. lookup-answer 12 0 []) (lt→ltb i (length ts) h)
 
 -- where the part begins, by the number of the answer
-by-number : (d : Dict) (i : ℕ) {a : Lookup-answer} → a ≡ lookup-gives d i → if-zero (a .number) (λ _. start-of (d .table) i) (λ _. 0) ≡ part-begins d i
+by-number : (d : Dict) (i : ℕ) {a : Lookup-answer} → a ≡ lookup-gives d i → begin-at (start-of (d .table) i) a ≡ part-begins d i
 unfolding part-begins
-by-number d i e = ap (λ (a : Lookup-answer). if-zero (a .number) (λ _. start-of (d .table) i) (λ _. 0)) e
+by-number d i e = ap (begin-at (start-of (d .table) i)) e
 
 module _ (d : Dict) (v : T (valid d)) (i : ℕ) where
   -- no such id

@@ -30,9 +30,13 @@ put-lent r t a c = put-result (r .number) (r .id .0) (contents t a c)
 abbrev pub located : Located → List ℕ → Lookup-answer
 located r arena = lookup-answer (r .number) (r .kind) (take (r .end - r .start) (drop (r .start) arena))
 
--- where the part of a lookup begins in the arena: at the start that the id's entry names; the empty part of a refusal at 0
+-- where the part of an answer begins, the term's bytes being at n: there, and the empty part of a refusal at 0
+abbrev pub begin-at : ℕ → Lookup-answer → ℕ
+begin-at n r = if-zero (r .number) (λ _. n) (λ _. 0)
+
+-- where the part of a lookup begins in the arena: at the start that the id's entry names
 unfoldable pub part-begins : Dict → ℕ → ℕ
-part-begins d i = if-zero (lookup-gives d i .number) (λ _. start-of (d .table) i) (λ _. 0)
+part-begins d i = begin-at (start-of (d .table) i) (lookup-gives d i)
 
 -- the pointer, a block and an offset, of what lies n bytes after p
 abbrev pub further : ℕ × ℕ → ℕ → ℕ × ℕ

@@ -7,13 +7,14 @@ use native.Mathlib.Omega.{arith}
 use lib.Dec.{T, ltb, eqb}
 use lib.ListN.{length}
 use Rattle.loads.specs.Shown.{Lent, shown, closed}
-use Rattle.reasoner.specs.Run.{first-met, run-stops, Run-reckoned, run-brought, run-passed, reckon-run}
+use Rattle.reasoner.specs.Run.{Run-reckoned, run-brought, run-passed, reckon-run}
+use Rattle.run_refusals.specs.Stops.{first-met, run-stops}
 use Rattle.term_layout.specs.Terms.{Term, run-terms}
 use Rattle.term_layout.specs.Dictionary.{Brought, full, brought, bring}
 use Rattle.common.specs.Triples.{Triple, Finding}
 use Rattle.common.specs.Table.{all}
 use Rattle.common.specs.Run.{Outcome, store-full, findings-full, accepted}
-use Rattle.reasoner.proofs.Refusing.{unmet-all, not-not}
+use Rattle.run_refusals.proofs.Refusing.{unmet-all, not-not}
 
 pub record AcceptedRun (tl al : ℕ) (ts : List Term) (b : Lent) (l : Run-reckoned) : Type 0 where
   pub answer : List Triple

@@ -11,7 +11,7 @@ use lib.ListN.{length, length-append}
 use Rattle.common.specs.Triples.{In, if}
 use Rattle.common.proofs.Lists.{in-nil, in-cons}
 use Rattle.term_layout.specs.Terms.{Term}
-use Rattle.term_layout.specs.Dictionary.{same-term, place-from, kind-known, short, roomy, put-answer, put-at, reckon-put, Brought, full, brought, if-zero, bring}
+use Rattle.term_layout.specs.Dictionary.{same-term, place-from, place-of, id-of, kind-known, short, roomy, put-answer, put-at, reckon-put, Brought, full, brought, if-zero, bring}
 use Rattle.term_layout.proofs.Equality.{same-term-refl}
 use Rattle.term_layout.proofs.Holding.{Added, put-cases, Holds, holds-put}
 
@@ -134,3 +134,9 @@ place-below i t (u ∷ ts) j e = go (same-term t u) e (place-below (suc i) t ts 
     go : (b : Bool) → (if b (λ _. some i) (λ _. place-from (suc i) t ts)) ≡ some j → (place-from (suc i) t ts ≡ some j → j < suc i + length ts) → j < i + suc (length ts)
     go true e k = let f : i ≡ j = cc in omega arith
     go false e k = omega (arith, k e)
+
+-- so is the id of a term that was brought
+pub bring-below : (tl al : ℕ) (ts r us : List Term) → bring tl al ts r ≡ brought us → (t : Term) → In t r → id-of (place-of t us) < length us
+bring-below tl al ts r us e t i =
+    let (j, p) = bring-has tl al ts r us e t i in
+    subst (λ (o : Option ℕ). id-of o < length us) (sym p) (omega (arith, place-below 0 t us j p))

@@ -1,4 +1,3 @@
-pub mod Refusing
 pub mod Bringing
 pub mod Running
 pub mod Accepting

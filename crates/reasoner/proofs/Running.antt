@@ -2,7 +2,6 @@
 use mathlib.Core.Path.{_≡_, refl, sym, ap, subst, _∙_}
 use mathlib.Core.Logic.{_≢_, ⊎-elim}
 use mathlib.Core.Bool.{Bool, true, false, not}
-use mathlib.Core.Option.{Option, some}
 use mathlib.Core.List.{List, [], _∷_}
 use Prim.Native.Nat.{ℕ, zero, suc, _+_, _*_, _%_, _≤_, _<_}
 use native.Mathlib.Omega.{arith}
@@ -26,10 +25,11 @@ use Rattle.term_layout.proofs.Holding.{Holds, valid→, valid-layout}
 use Rattle.term_entries.proofs.Reading.{held, count}
 use Rattle.loads.specs.declared.values.RunAnswer.{RunAnswer}
 use Rattle.loads.specs.Shown.{Lent, Run-answer, shown, closed}
-use Rattle.reasoner.specs.Run.{unchanged, first-met, run-stops, Run-reckoned, run-brought, run-passed, reckon-run, Run-result, run-laid, run-gives}
+use Rattle.reasoner.specs.Run.{unchanged, Run-reckoned, run-brought, run-passed, reckon-run, Run-result, run-laid, run-gives}
+use Rattle.run_refusals.specs.Stops.{first-met, run-stops}
 use Rattle.loads.specs.Loads.{Termed, Loaded}
-use Rattle.reasoner.proofs.Refusing.{Unmet, unmet-all, not-not, all-in}
-use Rattle.reasoner.proofs.Bringing.{grown-length, bring-grows, bring-holds, bring-few, bring-has, place-below}
+use Rattle.run_refusals.proofs.Refusing.{Unmet, unmet-all, not-not, all-in}
+use Rattle.reasoner.proofs.Bringing.{grown-length, bring-grows, bring-holds, bring-few, bring-below}
 
 not-above : (a b : ℕ) → T (not (ltb a b)) → b ≤ a
 not-above a b h = ⊎-elim (λ p. p) (λ p. absurd (go (ltb a b) (lt→ltb a b p) h)) (le-or b a)
@@ -129,9 +129,7 @@ module _ (d : Dict) (b : Lent) (v : T (valid d)) where
       counted = count (x .contents) still-valid ∙ ap (λ (us : List Term). length us) decoded
 
       id-below : (t : Term) → In t run-terms → id-of (place-of t (H .terms)) < x .contents .terms
-      id-below t i =
-          let (j, p) = bring-has tl al ts run-terms (H .terms) (H .brings) t i in
-          subst (λ (o : Option ℕ). id-of o < x .contents .terms) (sym p) (omega (arith, counted, place-below 0 t (H .terms) j p))
+      id-below t i = omega (arith, counted, bring-below tl al ts run-terms (H .terms) (H .brings) t i)
 
       abbrev Id-is : Term → ℕ → Type 0
       Id-is t i = (i ≡ id-of (place-of t (decode (x .contents)))) × (i < x .contents .terms)

@@ -1,12 +1,11 @@
 // The run of document 01: from a load to the answer and its findings, for all inputs.
-pub mod refusals; // refusals.rt: what a run refuses before it puts a term
 mod values; // values.rt: what a run answers, with the counters
 
 use index::Counters;
 use index::is_valid;
 pub use loads::RunAnswer;
 use loads::run_load;
-pub use refusals::refusal;
+use run_refusals::refusal;
 use run_terms::put_run_terms;
 pub use values::RunNext;
 ghost use mathlib.Core.Path.{_≡_};

@@ -1,4 +1,4 @@
--- `reasoner::all_known` meets its contract. Assumes nothing.
+-- `run_refusals::all_known` meets its contract. Assumes nothing.
 use Prim.Native.Nat.{ℕ, _+_, _-_, _≤_}
 use mathlib.Core.Path.{_≡_, refl, sym, ap, _∙_}
 use mathlib.Core.Bool.{Bool, true, false, not}
@@ -8,9 +8,9 @@ use native.Mathlib.Omega.{arith}
 use borrow.Author.Needs.{needs}
 use borrow.Author.Tests.{eq-eqb, ne-eqb, lt-ltb, le-ltb}
 use Rattle.common.specs.Table.{all}
-use Rattle.reasoner.proofs.Refusing.{all-start, all-step, all-fails, all-end}
-use Rattle.reasoner.proofs.refusals.all_known.Statement.{statement}
-use Rattle.reasoner.proofs.refusals.all_known.Tie as tie
+use Rattle.run_refusals.proofs.Refusing.{all-start, all-step, all-fails, all-end}
+use Rattle.run_refusals.proofs.all_known.Statement.{statement}
+use Rattle.run_refusals.proofs.all_known.Tie as tie
 
 abbrev Inv-loop : tie.InvT-loop
 Inv-loop load terms j₀ j = (j ≤ length load) × (all (λ i. ltb i terms) load ≡ all (λ i. ltb i terms) (drop j load))

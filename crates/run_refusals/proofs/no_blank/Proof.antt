@@ -1,4 +1,4 @@
--- `reasoner::no_blank` meets its contract. Assumes nothing.
+-- `run_refusals::no_blank` meets its contract. Assumes nothing.
 use Prim.Native.Nat.{ℕ, _+_, _-_, _≤_}
 use mathlib.Core.Path.{_≡_, refl, sym, ap, _∙_}
 use mathlib.Core.Bool.{Bool, true, false, not}
@@ -8,9 +8,9 @@ use native.Mathlib.Omega.{arith}
 use borrow.Author.Needs.{needs}
 use borrow.Author.Tests.{eq-eqb, ne-eqb, lt-ltb, le-ltb}
 use Rattle.common.specs.Table.{all}
-use Rattle.reasoner.proofs.Refusing.{all-start, all-step, all-fails, all-end}
-use Rattle.reasoner.proofs.refusals.no_blank.Statement.{statement}
-use Rattle.reasoner.proofs.refusals.no_blank.Tie as tie
+use Rattle.run_refusals.proofs.Refusing.{all-start, all-step, all-fails, all-end}
+use Rattle.run_refusals.proofs.no_blank.Statement.{statement}
+use Rattle.run_refusals.proofs.no_blank.Tie as tie
 
 abbrev Inv-loop : tie.InvT-loop
 Inv-loop load j₀ j = (j ≤ length load) × (all (λ i. not (eqb i 0)) load ≡ all (λ i. not (eqb i 0)) (drop j load))

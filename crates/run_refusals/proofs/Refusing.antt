@@ -13,7 +13,7 @@ use Rattle.common.specs.Triples.{Triple, triple, In, if}
 use Rattle.common.specs.Table.{all}
 use Rattle.common.specs.Rows.{triples}
 use Rattle.common.proofs.Lists.{in-nil, in-cons, and→}
-use Rattle.reasoner.specs.Run.{Stop, stop, first-met}
+use Rattle.run_refusals.specs.Stops.{Stop, stop, first-met}
 
 -- a condition that is met ends the search, and another goes on
 pub met : (n : ℕ) (b : Bool) (r : List Stop) → b ≡ true → n ≡ first-met (stop n b ∷ r)

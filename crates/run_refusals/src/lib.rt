@@ -4,7 +4,7 @@ ghost use mathlib.Core.Bool.{not};
 ghost use lib.Dec.{eqb, ltb};
 ghost use Rattle.common.specs.Table.{all};
 ghost use Rattle.loads.specs.Shown.{lent};
-ghost use Rattle.reasoner.specs.Run.{first-met, run-stops};
+ghost use Rattle.run_refusals.specs.Stops.{first-met, run-stops};
 
 // Whether no id of the load is 0.
 pub fn no_blank(load: &[u32]) -> bool

@@ -1,0 +1,91 @@
+-- Lists of calls through the C entry points: each put, lookup and run is lent the dictionary, its table as bytes, as the call before
+-- left it, so what one call writes the next reads. What each gives over bytes, and what it must give, reckoned from the lengths of table
+-- and arena in bytes and the calls' other arguments alone. From document 01, 'Demand 3's list of calls' and 'What must change shape'.
+-- Assumes nothing.
+use mathlib.Core.List.{List, [], _∷_, map}
+use Prim.Native.Nat.{ℕ, _/_}
+use lib.ListN.{take}
+use Rattle.term_layout.specs.Terms.{Term, start-terms}
+use Rattle.term_layout.specs.Layout.{Dict, dict, size, layout}
+use Rattle.term_layout.specs.Dictionary.{reckon-put, reckon-lookup}
+use Rattle.loads.specs.Shown.{Run-answer}
+use Rattle.reasoner.specs.Run.{reckon-run}
+use Rattle.calls.specs.Calls.{Call, put, lookup, run-on, reckon, terms-after}
+use Rattle.byte_numbers.specs.Bytes.{bytes-of}
+use Rattle.entry.specs.Calls.{read-dict, put-bytes-give, Place-answer, place-at, place-gives, read-lent, answer-in-bytes, run-bytes-give}
+
+-- what a call gives: a put its number and id, a lookup the term's place in the arena, a run its answer and the bytes that it leaves
+pub data Byte-out : Type 0 where
+  put-out : ℕ → ℕ → Byte-out
+  place-out : Place-answer → Byte-out
+  run-out : Run-answer → Byte-out
+
+-- OVER BYTES: what the contracts of the C entry points promise. A run's buffers, and the dictionary's table, are bytes.
+pub record Byte-left : Type 0 where
+  pub out : Byte-out
+  pub contents : Dict
+
+unfoldable pub byte-call-gives : Dict → Call → Byte-left
+byte-call-gives d (put t) = let a = put-bytes-give d t in record { out = put-out (a .number) (a .id); contents = a .contents }
+byte-call-gives d (lookup i) = record { out = place-out (place-gives (read-dict d) i); contents = d }
+byte-call-gives d (run-on b) = let a = run-bytes-give d b in record { out = run-out (a .answer); contents = a .contents }
+
+-- a call and what it gave
+pub record Byte-event : Type 0 where
+  pub call : Call
+  pub out : Byte-out
+
+abbrev pub byte-event : Call → Byte-out → Byte-event
+byte-event c o = record { call = c; out = o }
+
+-- A LIST OF CALLS: what each gave, and the contents at the end; a refused call stays in the list
+pub record Byte-list-left : Type 0 where
+  pub events : List Byte-event
+  pub contents : Dict
+
+unfoldable pub byte-calls-give : Dict → List Call → Byte-list-left
+byte-calls-give d [] = record { events = []; contents = d }
+byte-calls-give d (c ∷ cs) =
+    let l = byte-call-gives d c in
+    let r = byte-calls-give (l .contents) cs in
+    record { events = byte-event c (l .out) ∷ r .events; contents = r .contents }
+
+-- RECKONED from the terms held. A call with its buffers as numbers: the terms held after it are those that `reckon` gives for it.
+abbrev pub read-call : Call → Call
+read-call (put t) = put t
+read-call (lookup i) = lookup i
+read-call (run-on b) = run-on (read-lent b)
+
+-- "Bytes follow each other without gaps": a term's begin where those of the terms before it end; 0 and 0 where the lookup is refused
+unfoldable pub reckon-place : List Term → ℕ → Place-answer
+reckon-place ts i = place-at (size (take i ts)) (reckon-lookup ts i)
+
+unfoldable pub reckon-out : ℕ → ℕ → List Term → Call → Byte-out
+reckon-out tl al ts (put t) = let p = reckon-put tl al ts t in put-out (p .number) (p .id)
+reckon-out tl al ts (lookup i) = place-out (reckon-place ts i)
+reckon-out tl al ts (run-on b) = run-out (answer-in-bytes b (reckon-run tl al ts (read-lent b) .answer))
+
+unfoldable pub byte-events-of : ℕ → ℕ → List Term → List Call → List Byte-event
+byte-events-of tl al ts [] = []
+byte-events-of tl al ts (c ∷ cs) = byte-event c (reckon-out tl al ts c) ∷ byte-events-of tl al (reckon tl al ts (read-call c) .held) cs
+
+-- contents with the table as bytes
+abbrev pub dict-in-bytes : Dict → Dict
+dict-in-bytes d = dict (bytes-of (d .table)) (d .arena) (d .terms) (d .used)
+
+-- the whole list, from the terms ts on: events, and the contents that the terms reckoned have
+abbrev pub byte-reckoned-from : ℕ → ℕ → List Term → List Call → Byte-list-left
+byte-reckoned-from tl al ts cs = record {
+  events = byte-events-of tl al ts cs;
+  contents = dict-in-bytes (layout tl al (terms-after tl al ts (map read-call cs)));
+}
+
+-- and from a start, lent a table of n bytes and an arena of al
+abbrev pub reckoned-bytes : ℕ → ℕ → List Call → Byte-list-left
+reckoned-bytes n al cs = byte-reckoned-from (n / 4) al start-terms cs
+
+-- the number of a call's result
+abbrev pub byte-number-of : Byte-out → ℕ
+byte-number-of (put-out n i) = n
+byte-number-of (place-out p) = p .number
+byte-number-of (run-out o) = o .number

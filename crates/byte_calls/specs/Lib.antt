@@ -1,0 +1,2 @@
+pub mod ByteCalls
+pub mod Demand3
