@@ -7,7 +7,8 @@ use native.Mathlib.Numerals.{add-one}
 use native.Mathlib.Decide.{ℕ-discrete}
 use lib.ListN.{length, getD, set, length-set}
 use lib.Seq.{getD-set-same, getD-set-other}
-use Rattle.buffers.specs.Memory.{cell-from, Each, given}
+use borrow.Author.Tests.{lt-ltb, le-ltb}
+use Rattle.buffers.specs.Memory.{cell-from, length-at, Each, given}
 
 -- the first i places are written
 pub record Filled (f : ℕ → ℕ) (a₀ a : List ℕ) (i : ℕ) : Type 0 where
@@ -46,3 +47,11 @@ module _ {m₀ : List ℕ} {at : ℕ} {row m : List ℕ} {i : ℕ} (c : Gave m�
 
   pub give-end : length row ≤ i → m ≡ given m₀ at row (length row)
   give-end h = let e : i ≡ length row = omega (arith, c .within) in c .is ∙ ap (given m₀ at row) e
+
+-- a length in a cell that is below the most, and one that is not
+module _ (m : List ℕ) (at most : ℕ) {n : ℕ} (e : n ≡ getD m at 0) where
+  pub below-most : n < most → (n ≡ length-at m at most) × (n ≤ most)
+  below-most h = let q = lt-ltb n most h in (rw (← e, q) refl, omega arith)
+
+  pub at-most : most ≤ n → (most ≡ length-at m at most) × (most ≤ most)
+  at-most h = let q = le-ltb n most h in (rw (← e, q) refl, omega arith)

@@ -2,11 +2,17 @@
 use mathlib.Core.Path.{_≡_}
 use mathlib.Core.List.{List}
 use Prim.Native.Nat.{ℕ, zero, suc, _+_, _%_, _^_, _<_}
+use lib.Dec.{ltb}
 use lib.ListN.{length, getD, set}
+use Rattle.common.specs.Triples.{if}
 
 -- the k-th cell from `at` on
 abbrev pub cell-from : ℕ → ℕ → ℕ
 cell-from at k = (at + k) % 2 ^ 64
+
+-- the length in a cell, and no more than `most`
+abbrev pub length-at : List ℕ → ℕ → ℕ → ℕ
+length-at m at most = if (ltb (getD m at 0) most) (λ _. getD m at 0) (λ _. most)
 
 -- each number of the row is what f says of its place
 abbrev pub Each : (ℕ → ℕ) → List ℕ → Type 0

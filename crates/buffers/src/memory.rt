@@ -1,9 +1,8 @@
 // A memory: numbers by cell, on which program replay makes its calls. crates/replay/README.md has the map of its cells.
 ghost use mathlib.Core.Path.{_≡_};
-ghost use Prim.Native.Nat.{_≤_};
-ghost use Prim.Native.Nat.{_%_};
+ghost use Prim.Native.Nat.{_%_, _≤_};
 ghost use lib.ListN.{getD, set, length};
-ghost use Rattle.buffers.specs.Memory.{cell-from, Each, given};
+ghost use Rattle.buffers.specs.Memory.{cell-from, length-at, Each, given};
 
 // The number in a cell, and 0 past the last.
 pub fn cell(memory: &[u32], at: usize) -> u32
@@ -23,7 +22,7 @@ pub fn set_cell(memory: &mut [u32], at: usize, number: u32)
 
 // The length in a cell, and no more than `most`.
 pub fn length_in(memory: &[u32], at: usize, most: usize) -> usize
-    ensures { λ r. ⌜ r ≤ most ⌝ }
+    ensures { λ r. ⌜ (r ≡ length-at (now (memory .entry)) at most) × (r ≤ most) ⌝ }
 {
     let length = cell(memory, at) as usize;
     if length < most { length } else { most }

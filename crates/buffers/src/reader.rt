@@ -78,8 +78,8 @@ pub fn read_number(text: &[u8], at: usize) -> Read
     }
 }
 
-// A place is good where all before it is.
-fn both(a: bool, b: bool) -> bool
+// Whether both hold: a place is good where all before it is.
+pub fn both(a: bool, b: bool) -> bool
     ensures { λ r. ⌜ r ≡ a && b ⌝ }
 {
     if a { b } else { false }

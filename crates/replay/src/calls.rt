@@ -13,6 +13,11 @@ use index::put_by_value;
 use index::start;
 use reasoner::RunAnswer;
 use reasoner::run;
+ghost use mathlib.Core.Path.{_≡_};
+ghost use lib.ListN.{length, getD, set};
+ghost use Rattle.loads.specs.Shown.{lent};
+ghost use Rattle.replay.specs.Made.{bytes-from, give, held, answered, start-made, put-made, narrowed, lookup-made};
+ghost use Rattle.replay.specs.Made.{run-held, run-part, run-lent, run-taken, run-made, made-on, made-lent, made};
 
 // Where each buffer begins.
 const TABLE: usize = 32;
@@ -66,7 +71,9 @@ const COUNT: usize = 15;
 
 const COUNTS: usize = 16;
 
-fn counters_in(memory: &[u32]) -> Counters {
+fn counters_in(memory: &[u32]) -> Counters
+    ensures { λ r. ⌜ r ≡ record { terms = getD (now (memory .entry)) 9 0; used = getD (now (memory .entry)) 10 0 } ⌝ }
+{
     Counters {
         terms: cell(memory, TERMS),
         used: cell(memory, USED),
@@ -74,19 +81,27 @@ fn counters_in(memory: &[u32]) -> Counters {
 }
 
 // What a call answers, and the counters after it.
-fn answer(memory: &mut [u32], number: u32, counters: Counters) {
+fn answer(memory: &mut [u32], number: u32, counters: Counters)
+    ensures { λ _. ⌜ now (memory .exit) ≡ answered (now (memory .entry)) number (counters .terms) (counters .used) ⌝ }
+{
     set_cell(&mut *memory, NUMBER, number);
     set_cell(&mut *memory, TERMS, counters.terms);
     set_cell(memory, USED, counters.used);
 }
 
-fn make_start(memory: &mut [u32], table: &mut [u32], arena: &mut [u8]) {
+fn make_start(memory: &mut [u32], table: &mut [u32], arena: &mut [u8])
+    ensures { λ _. ⌜ held (now (memory .exit)) (now (table .exit)) (now (arena .exit))
+        ≡ start-made (held (now (memory .entry)) (now (table .entry)) (now (arena .entry))) ⌝ }
+{
     let started = start(table, arena);
     let counters = started.counters;
     answer(memory, started.number, counters);
 }
 
-fn put_term(memory: &mut [u32], table: &mut [u32], arena: &mut [u8], term: &[u8]) {
+fn put_term(memory: &mut [u32], table: &mut [u32], arena: &mut [u8], term: &[u8])
+    ensures { λ _. ⌜ held (now (memory .exit)) (now (table .exit)) (now (arena .exit))
+        ≡ put-made (held (now (memory .entry)) (now (table .entry)) (now (arena .entry))) (now (term .entry)) ⌝ }
+{
     let counters = counters_in(&*memory);
     let kind = cell(&*memory, PUT_KIND);
     let n = length_in(&*memory, TERM_LENGTH, term.len());
@@ -97,14 +112,19 @@ fn put_term(memory: &mut [u32], table: &mut [u32], arena: &mut [u8], term: &[u8]
     answer(memory, next.number, left);
 }
 
-fn make_put(memory: &mut [u32], table: &mut [u32], arena: &mut [u8]) {
+fn make_put(memory: &mut [u32], table: &mut [u32], arena: &mut [u8])
+    ensures { λ _. ⌜ held (now (memory .exit)) (now (table .exit)) (now (arena .exit))
+        ≡ put-made (held (now (memory .entry)) (now (table .entry)) (now (arena .entry))) (bytes-from (now (memory .entry)) 9952 4100) ⌝ }
+{
     let mut term = [0u8; 4100];
     take_bytes(&*memory, TERM, &mut term);
     put_term(memory, table, arena, &term);
 }
 
 // No arena is as long as the numbers of a memory go.
-fn narrow(length: usize) -> u32 {
+fn narrow(length: usize) -> u32
+    ensures { λ r. ⌜ r ≡ narrowed length ⌝ }
+{
     if length < 4294967296 {
         length as u32
     } else {
@@ -112,7 +132,10 @@ fn narrow(length: usize) -> u32 {
     }
 }
 
-fn make_lookup(memory: &mut [u32], table: &[u32], arena: &[u8]) {
+fn make_lookup(memory: &mut [u32], table: &[u32], arena: &[u8])
+    ensures { λ _. ⌜ held (now (memory .exit)) (now (table .entry)) (now (arena .entry))
+        ≡ lookup-made (held (now (memory .entry)) (now (table .entry)) (now (arena .entry))) ⌝ }
+{
     let counters = counters_in(&*memory);
     let id = cell(&*memory, LOOKUP_ID);
     let mut number: u32 = 0;
@@ -124,7 +147,10 @@ fn make_lookup(memory: &mut [u32], table: &[u32], arena: &[u8]) {
     answer(memory, number, counters);
 }
 
-fn answer_run(memory: &mut [u32], got: RunAnswer, counters: Counters) {
+fn answer_run(memory: &mut [u32], got: RunAnswer, counters: Counters)
+    ensures { λ _. ⌜ now (memory .exit)
+        ≡ answered (give (set (now (memory .entry)) 15 (got .count)) 16 (got .counts)) (got .number) (counters .terms) (counters .used) ⌝ }
+{
     let counts = got.counts;
     set_cell(&mut *memory, COUNT, got.count);
     give_numbers(&mut *memory, COUNTS, &counts);
@@ -139,7 +165,12 @@ fn run_load(
     store: &mut [u32],
     findings: &mut [u32],
     work: &mut [u32],
-) {
+)
+    ensures { λ _. ⌜ run-held (held (now (memory .exit)) (now (table .exit)) (now (arena .exit))) (now (store .exit))
+        (now (findings .exit)) (now (work .exit))
+        ≡ run-part (held (now (memory .entry)) (now (table .entry)) (now (arena .entry))) (lent (now (load .entry))
+        (now (store .entry)) (now (findings .entry)) (now (work .entry))) ⌝ }
+{
     let counters = counters_in(&*memory);
     let next = run(table, arena, counters, load, store, findings, work);
     let got = next.answer;
@@ -156,7 +187,12 @@ fn run_lent(
     store: &mut [u32],
     findings: &mut [u32],
     work: &mut [u32],
-) {
+)
+    ensures { λ _. ⌜ run-held (held (now (memory .exit)) (now (table .exit)) (now (arena .exit))) (now (store .exit))
+        (now (findings .exit)) (now (work .exit))
+        ≡ run-lent (held (now (memory .entry)) (now (table .entry)) (now (arena .entry))) (lent (now (load .entry))
+        (now (store .entry)) (now (findings .entry)) (now (work .entry))) ⌝ }
+{
     let l = length_in(&*memory, LOAD_LENGTH, load.len());
     let s = length_in(&*memory, STORE_LENGTH, store.len());
     let f = length_in(&*memory, FINDINGS_LENGTH, findings.len());
@@ -179,7 +215,12 @@ fn run_loaded(
     store: &mut [u32],
     findings: &mut [u32],
     work: &mut [u32],
-) {
+)
+    ensures { λ _. ⌜ run-held (held (now (memory .exit)) (now (table .exit)) (now (arena .exit))) (now (store .exit))
+        (now (findings .exit)) (now (work .exit))
+        ≡ run-taken (held (now (memory .entry)) (now (table .entry)) (now (arena .entry))) (length (now (store .entry)))
+        (length (now (findings .entry))) (length (now (work .entry))) ⌝ }
+{
     let mut load = [0u32; 49160];
     take_numbers(&*memory, LOAD, &mut load);
     take_numbers(&*memory, STORE, &mut *store);
@@ -188,7 +229,10 @@ fn run_loaded(
     run_lent(memory, table, arena, &load, store, findings, work);
 }
 
-fn make_run(memory: &mut [u32], table: &mut [u32], arena: &mut [u8]) {
+fn make_run(memory: &mut [u32], table: &mut [u32], arena: &mut [u8])
+    ensures { λ _. ⌜ held (now (memory .exit)) (now (table .exit)) (now (arena .exit))
+        ≡ run-made (held (now (memory .entry)) (now (table .entry)) (now (arena .entry))) ⌝ }
+{
     let mut store = [0u32; 2100];
     let mut findings = [0u32; 500];
     let mut work = [0u32; 200];
@@ -206,7 +250,10 @@ fn make_run(memory: &mut [u32], table: &mut [u32], arena: &mut [u8]) {
 }
 
 // The call with a number, on this table and arena.
-fn make_on(call: u32, memory: &mut [u32], table: &mut [u32], arena: &mut [u8]) {
+fn make_on(call: u32, memory: &mut [u32], table: &mut [u32], arena: &mut [u8])
+    ensures { λ _. ⌜ held (now (memory .exit)) (now (table .exit)) (now (arena .exit))
+        ≡ made-on call (held (now (memory .entry)) (now (table .entry)) (now (arena .entry))) ⌝ }
+{
     if call == 0 {
         make_start(&mut *memory, &mut *table, &mut *arena);
         return;
@@ -225,14 +272,19 @@ fn make_on(call: u32, memory: &mut [u32], table: &mut [u32], arena: &mut [u8]) {
 }
 
 // Lends the call as much of the table and the arena as the memory says.
-fn make_lent(call: u32, memory: &mut [u32], table: &mut [u32], arena: &mut [u8]) {
+fn make_lent(call: u32, memory: &mut [u32], table: &mut [u32], arena: &mut [u8])
+    ensures { λ _. ⌜ held (now (memory .exit)) (now (table .exit)) (now (arena .exit))
+        ≡ made-lent call (held (now (memory .entry)) (now (table .entry)) (now (arena .entry))) ⌝ }
+{
     let t = length_in(&*memory, TABLE_LENGTH, table.len());
     let a = length_in(&*memory, ARENA_LENGTH, arena.len());
     make_on(call, memory, &mut table[..t], &mut arena[..a]);
 }
 
 // Makes the call: 0 start, 1 put, 2 lookup, 3 run; another number makes none.
-pub fn make(call: u32, memory: &mut [u32]) {
+pub fn make(call: u32, memory: &mut [u32])
+    ensures { λ _. ⌜ now (memory .exit) ≡ made call (now (memory .entry)) ⌝ }
+{
     let mut table = [0u32; 320];
     let mut arena = [0u8; 9600];
     take_numbers(&*memory, TABLE, &mut table);

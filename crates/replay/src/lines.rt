@@ -4,10 +4,15 @@ use buffers::memory::fill;
 use buffers::memory::take_numbers;
 use buffers::reader::Cursor;
 use buffers::reader::Read;
+use buffers::reader::both;
 use buffers::reader::read_number;
 use buffers::reader::read_row;
 use buffers::same;
+ghost use mathlib.Core.Path.{_≡_};
+ghost use mathlib.Core.Bool.{true};
 ghost use Prim.Native.Nat.{_≤_};
+ghost use Rattle.replay.specs.Text.{cells-from, span-from, edited, written, filled, edits, edited-by, one-if, difference};
+ghost use Rattle.replay.specs.Text.{called, call-made, memories, kept-by, played, quiet-turn, line-played};
 
 // What a line showed: calls and differences, and the place after it, if it could be read.
 pub struct Turn {
@@ -27,8 +32,7 @@ struct Span {
 
 // The cells that a first cell and a number of cells name, if the memory has them.
 fn cells_from(first: usize, n: usize, at: usize, ok: bool, cells: usize) -> Span
-    ensures { λ r. ⌜ r .first ≤ r .end ⌝ }
-    ensures { λ r. ⌜ r .end ≤ cells ⌝ }
+    ensures { λ r. ⌜ (r ≡ cells-from first n at ok cells) × (r .first ≤ r .end) × (r .end ≤ cells) ⌝ }
 {
     let none = Span {
         first: 0,
@@ -51,8 +55,7 @@ fn cells_from(first: usize, n: usize, at: usize, ok: bool, cells: usize) -> Span
 }
 
 fn read_span(text: &[u8], at: usize, cells: usize) -> Span
-    ensures { λ r. ⌜ r .first ≤ r .end ⌝ }
-    ensures { λ r. ⌜ r .end ≤ cells ⌝ }
+    ensures { λ r. ⌜ (r ≡ span-from (now (text .entry)) at cells) × (r .first ≤ r .end) × (r .end ≤ cells) ⌝ }
 {
     let first = read_number(text, at);
     let n = read_number(text, first.at);
@@ -60,13 +63,15 @@ fn read_span(text: &[u8], at: usize, cells: usize) -> Span
         first.value as usize,
         n.value as usize,
         n.at,
-        first.ok && n.ok,
+        both(first.ok, n.ok),
         cells,
     )
 }
 
 // Writes the numbers of a line to its cells.
-fn write_cells(text: &[u8], at: usize, memory: &mut [u32]) -> Cursor {
+fn write_cells(text: &[u8], at: usize, memory: &mut [u32]) -> Cursor
+    ensures { λ r. ⌜ edited r (now (memory .exit)) ≡ written (now (text .entry)) at (now (memory .entry)) ⌝ }
+{
     let s = read_span(text, at, memory.len());
     let first = s.first;
     let end = s.end;
@@ -75,7 +80,9 @@ fn write_cells(text: &[u8], at: usize, memory: &mut [u32]) -> Cursor {
 }
 
 // Fills the cells of a line with its number.
-fn fill_cells(text: &[u8], at: usize, memory: &mut [u32]) -> Cursor {
+fn fill_cells(text: &[u8], at: usize, memory: &mut [u32]) -> Cursor
+    ensures { λ r. ⌜ edited r (now (memory .exit)) ≡ filled (now (text .entry)) at (now (memory .entry)) ⌝ }
+{
     let s = read_span(text, at, memory.len());
     let first = s.first;
     let end = s.end;
@@ -83,12 +90,15 @@ fn fill_cells(text: &[u8], at: usize, memory: &mut [u32]) -> Cursor {
     fill(&mut memory[first..end], number.value);
     Cursor {
         at: number.at,
-        ok: s.ok && number.ok,
+        ok: both(s.ok, number.ok),
     }
 }
 
 // Lines 0 to 3: cells of both memories or of the expected one.
-fn edit(line: u32, text: &[u8], at: usize, memory: &mut [u32], expected: &mut [u32]) -> Cursor {
+fn edit(line: u32, text: &[u8], at: usize, memory: &mut [u32], expected: &mut [u32]) -> Cursor
+    ensures { λ r. ⌜ edits r (now (memory .exit)) (now (expected .exit))
+        ≡ edited-by line (now (text .entry)) at (now (memory .entry)) (now (expected .entry)) ⌝ }
+{
     if line == 0 {
         write_cells(text, at, memory);
         return write_cells(text, at, expected);
@@ -103,28 +113,41 @@ fn edit(line: u32, text: &[u8], at: usize, memory: &mut [u32], expected: &mut [u
     fill_cells(text, at, expected)
 }
 
+fn one_if(b: bool) -> u32
+    ensures { λ r. ⌜ r ≡ one-if b ⌝ }
+{
+    if b { 1 } else { 0 }
+}
+
+// Whether the memories are not as a line says: they have to be the same for 0, and to differ for 1.
+fn is_difference(agrees: bool, differs: u32) -> bool
+    ensures { λ r. ⌜ r ≡ difference agrees differs ⌝ }
+{
+    if agrees { differs == 1 } else { differs != 1 }
+}
+
 // Line 4: a call, and whether the memories are then as it says.
-fn call(text: &[u8], at: usize, memory: &mut [u32], expected: &[u32]) -> Turn {
+fn call(text: &[u8], at: usize, memory: &mut [u32], expected: &[u32]) -> Turn
+    ensures { λ r. ⌜ called r (now (memory .exit)) ≡ call-made (now (text .entry)) at (now (memory .entry)) (now (expected .entry)) ⌝ }
+{
     let number = read_number(text, at);
     let differs = read_number(text, number.at);
     make(number.value, &mut *memory);
     let agrees = same(&*memory, expected);
     Turn {
         at: differs.at,
-        ok: number.ok && differs.ok,
-        calls: (number.value < 4) as u32,
-        differences: (agrees == (differs.value == 1)) as u32,
+        ok: both(number.ok, differs.ok),
+        calls: one_if(number.value < 4),
+        differences: one_if(is_difference(agrees, differs.value)),
     }
 }
 
 // Another line, 5 or 6: the memory is saved, or both are again as it was, with zeros for the load.
-fn keep(
-    line: u32,
-    at: usize,
-    memory: &mut [u32],
-    expected: &mut [u32],
-    saved: &mut [u32],
-) -> Cursor {
+fn keep(line: u32, at: usize, memory: &mut [u32], expected: &mut [u32], saved: &mut [u32]) -> Cursor
+    ensures { λ r. ⌜ (r ≡ record { at = at; ok = true })
+        × (memories (now (memory .exit)) (now (expected .exit)) (now (saved .exit))
+        ≡ kept-by line (memories (now (memory .entry)) (now (expected .entry)) (now (saved .entry)))) ⌝ }
+{
     if line == 5 {
         take_numbers(&*memory, 0, saved);
         return Cursor { at, ok: true };
@@ -135,7 +158,9 @@ fn keep(
 }
 
 // A line without a call.
-fn quiet(end: Cursor) -> Turn {
+fn quiet(end: Cursor) -> Turn
+    ensures { λ r. ⌜ r ≡ quiet-turn end ⌝ }
+{
     Turn {
         at: end.at,
         ok: end.ok,
@@ -151,7 +176,10 @@ pub fn play_line(
     memory: &mut [u32],
     expected: &mut [u32],
     saved: &mut [u32],
-) -> Turn {
+) -> Turn
+    ensures { λ r. ⌜ played r (memories (now (memory .exit)) (now (expected .exit)) (now (saved .exit)))
+        ≡ line-played (now (text .entry)) line (memories (now (memory .entry)) (now (expected .entry)) (now (saved .entry))) ⌝ }
+{
     let at = line.at;
     let which = line.value;
     if which < 4 {

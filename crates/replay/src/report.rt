@@ -5,6 +5,9 @@ use buffers::reader::read_bytes;
 use buffers::reader::read_number;
 ghost use mathlib.Core.Path.{_≡_};
 ghost use Prim.Native.Nat.{_+_, _%_, _^_};
+ghost use lib.ListN.{length};
+ghost use Rattle.buffers.specs.Reading.{cursor-after, is-byte};
+ghost use Rattle.replay.specs.Text.{list-end};
 
 // The longest name of a list.
 const NAME: usize = 60;
@@ -42,11 +45,11 @@ fn print_line(what: &[u8], line: usize) {
     io::write_all(1, b"\n");
 }
 
-pub fn print_difference(line: usize) {
+pub(crate) fn print_difference(line: usize) {
     print_line(b"not as said after line ", line);
 }
 
-pub fn print_unreadable(line: usize) {
+pub(crate) fn print_unreadable(line: usize) {
     print_line(b"cannot read line ", line);
 }
 
@@ -59,7 +62,9 @@ fn print_list(name: &[u8], tally: Tally) {
     io::write_all(1, b"\n");
 }
 
-fn end_named(text: &[u8], from: Cursor, name: &mut [u8], tally: Tally) -> Cursor {
+fn end_named(text: &[u8], from: Cursor, name: &mut [u8], tally: Tally) -> Cursor
+    ensures { λ r. ⌜ r ≡ cursor-after is-byte (now (text .entry)) from (length (now (name .entry))) ⌝ }
+{
     let end = read_bytes(text, from, &mut *name);
     if end.ok {
         print_list(&*name, tally);
@@ -67,7 +72,9 @@ fn end_named(text: &[u8], from: Cursor, name: &mut [u8], tally: Tally) -> Cursor
     end
 }
 
-fn end_in(text: &[u8], at: usize, room: &mut [u8], tally: Tally) -> Cursor {
+fn end_in(text: &[u8], at: usize, room: &mut [u8], tally: Tally) -> Cursor
+    ensures { λ r. ⌜ r ≡ list-end (now (text .entry)) at (length (now (room .entry))) ⌝ }
+{
     let length = read_number(text, at);
     let n = length.value as usize;
     if room.len() < n {
@@ -81,7 +88,9 @@ fn end_in(text: &[u8], at: usize, room: &mut [u8], tally: Tally) -> Cursor {
 }
 
 // The line that ends a list: its name, and what it showed.
-pub fn end_list(text: &[u8], at: usize, tally: Tally) -> Cursor {
+pub fn end_list(text: &[u8], at: usize, tally: Tally) -> Cursor
+    ensures { λ r. ⌜ r ≡ list-end (now (text .entry)) at 60 ⌝ }
+{
     let mut room = [0u8; NAME];
     end_in(text, at, &mut room, tally)
 }

@@ -1,17 +1,16 @@
 // What the measurements of crates rows and sort link: the sort, and appending with repeats. The harness is harness/rows_bench.
-use rows::Added;
 use rows::add;
 use rows::row;
 use sort::sort_rows;
-ghost use Prim.Native.Nat.{ℕ, _*_, _<_, _≤_, _^_};
-ghost use lib.ListN.{length};
 ghost use Rattle.rows.specs.Store.{Good};
-ghost use Rattle.rows_bench.specs.Load.{Load};
+ghost use Rattle.sort.specs.Sorted.{Fits, Sorted};
+ghost use Rattle.rows_bench.specs.Load.{Load, Appended};
 
 // Rows of the store.
 #[no_mangle]
 pub extern "C" fn rows_bench_sort_triples(buf: &mut [u32], n: usize)
-    requires { ⌜ (3 * n ≤ length (now buf)) × (n < 2 ^ 32) ⌝ }
+    requires { ⌜ Fits 3 n (now buf) ⌝ }
+    ensures { λ _. ⌜ Sorted 3 n (now (buf .entry)) (now (buf .exit)) ⌝ }
 {
     sort_rows(&mut *buf, 3, n);
 }
@@ -19,7 +18,8 @@ pub extern "C" fn rows_bench_sort_triples(buf: &mut [u32], n: usize)
 // Rows of five numbers, as findings have them.
 #[no_mangle]
 pub extern "C" fn rows_bench_sort_findings(buf: &mut [u32], n: usize)
-    requires { ⌜ (5 * n ≤ length (now buf)) × (n < 2 ^ 32) ⌝ }
+    requires { ⌜ Fits 5 n (now buf) ⌝ }
+    ensures { λ _. ⌜ Sorted 5 n (now (buf .entry)) (now (buf .exit)) ⌝ }
 {
     sort_rows(&mut *buf, 5, n);
 }
@@ -33,6 +33,7 @@ pub extern "C" fn rows_bench_append(
     count: usize,
 ) -> usize
     requires { ⌜ Good (now store) (now hash) 0 × Load (now load) count ⌝ }
+    ensures { λ r. ⌜ Appended (now (load .entry)) count (now (store .entry)) (now (store .exit)) (now (hash .exit)) r ⌝ }
 {
     let mut n = 0;
     let mut k = 0;

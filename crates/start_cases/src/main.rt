@@ -1,5 +1,7 @@
-// Starts in buffers of many lengths. A line of standard input has the lengths of table and arena, and the number that a start must give:
-// both sides of each limit in document 01, 'Dictionary', and of the room that the start's terms need. A case that differs is named.
+// Starts in buffers of many lengths. A line of standard input has the lengths of table and arena, the number that is said of a start in
+// them, and 0 where it must give that number, or 1 where it must not: a comparison that tests nothing so shows as a difference. The cases
+// with 0 are both sides of each limit in document 01, 'Dictionary', and of the room that the start's terms need; those with 1 name
+// another number for starts of each kind. A case that differs is named.
 mod starts; // starts.rt: a start, held to what is said of it
 
 use buffers::reader::read_number;
@@ -22,12 +24,13 @@ fn play(text: &[u8], at: usize) -> Case {
     let t = read_number(text, at);
     let a = read_number(text, t.at);
     let number = read_number(text, a.at);
+    let differs = read_number(text, number.at);
     let n = number.value;
     let agrees = starts(t.value as usize, a.value as usize, n, n == FOUND);
     Case {
-        at: number.at,
-        ok: t.ok && a.ok && number.ok,
-        agrees,
+        at: differs.at,
+        ok: t.ok && a.ok && number.ok && differs.ok,
+        agrees: agrees != (differs.value == 1),
     }
 }
 

@@ -3,6 +3,8 @@ use mathlib.Core.Path.{sym}
 use native.Mathlib.Omega.{arith}
 use lib.Seq.{length-take-le}
 use borrow.Author.Needs.{needs}
+use Rattle.replay.specs.Made.{held}
+use Rattle.replay.proofs.Making.{made-lent-is}
 use Rattle.replay.proofs.calls.make_lent.Statement.{statement}
 use Rattle.replay.proofs.calls.make_lent.Tie as tie
 
@@ -37,7 +39,13 @@ same-length-3 : tie.Need-same-length-3
 same-length-3 c = search needs
 
 returns : tie.Need-returns
-returns c = search needs
+returns c =
+    let after-make-on = c .before .before .before .before .before .before in
+    let after-length-in2 = after-make-on .before .before .before .before in
+    let after-length-in = after-length-in2 .before .before in
+    let args = after-length-in .before .before .before .before .before .args in
+    made-lent-is (args .call) (held (args .memory .now) (args .table .now) (args .arena .now))
+    (after-length-in .length-in .ensures .0) (after-length-in2 .length-in2 .ensures .0) (after-make-on .make-on .ensures)
 
 pub make-lent-spec : {M : Type 1} → statement M
 make-lent-spec =

@@ -3,6 +3,7 @@ use mathlib.Core.Path.{sym}
 use native.Mathlib.Omega.{arith}
 use lib.Seq.{length-take-le}
 use borrow.Author.Needs.{needs}
+use Rattle.replay.proofs.Making.{put-is}
 use Rattle.replay.proofs.calls.put_term.Statement.{statement}
 use Rattle.replay.proofs.calls.put_term.Tie as tie
 
@@ -37,7 +38,17 @@ same-length-3 : tie.Need-same-length-3
 same-length-3 c = search needs
 
 returns : tie.Need-returns
-returns c = search needs
+returns c =
+    let after-answer = c .before .before in
+    let after-set-cell = after-answer .before .before .before .before in
+    let after-put-by-value = after-set-cell .before .before .before .before .before .before .before .before in
+    let after-length-in = after-put-by-value .before .before .before .before in
+    let after-cell = after-length-in .before .before in
+    let after-counters-in = after-cell .before .before in
+    let args = after-counters-in .before .before .before .before .before .before .args in
+    put-is (args .memory .now) (args .table .now) (args .arena .now) (after-counters-in .counters-in .ensures) (args .term .now)
+    (after-cell .cell .ensures) (after-length-in .length-in .ensures .0) (after-put-by-value .put-by-value .ensures)
+    (after-set-cell .set-cell .ensures) (after-answer .answer .ensures)
 
 pub put-term-spec : {M : Type 1} → statement M
 put-term-spec =

@@ -3,6 +3,9 @@ use mathlib.Core.Path.{sym}
 use native.Mathlib.Omega.{arith}
 use lib.Seq.{length-take-le}
 use borrow.Author.Needs.{needs}
+use Rattle.loads.specs.Shown.{lent}
+use Rattle.replay.specs.Made.{held}
+use Rattle.replay.proofs.Making.{run-lent-is}
 use Rattle.replay.proofs.calls.run_lent.Statement.{statement}
 use Rattle.replay.proofs.calls.run_lent.Tie as tie
 
@@ -61,7 +64,17 @@ same-length-6 : tie.Need-same-length-6
 same-length-6 c = search needs
 
 returns : tie.Need-returns
-returns c = search needs
+returns c =
+    let after-run-load = c .before .before .before .before .before .before .before .before .before .before .before .before in
+    let after-length-in4 = after-run-load .before .before .before .before .before .before .before .before in
+    let after-length-in3 = after-length-in4 .before .before in
+    let after-length-in2 = after-length-in3 .before .before in
+    let after-length-in = after-length-in2 .before .before in
+    let args = after-length-in .before .before .before .before .before .before .before .before .before .args in
+    run-lent-is (held (args .memory .now) (args .table .now) (args .arena .now))
+    (lent (args .load .now) (args .store .now) (args .findings .now) (args .work .now)) (after-length-in .length-in .ensures .0)
+    (after-length-in2 .length-in2 .ensures .0) (after-length-in3 .length-in3 .ensures .0)
+    (after-length-in4 .length-in4 .ensures .0) (after-run-load .run-load .ensures)
 
 pub run-lent-spec : {M : Type 1} → statement M
 run-lent-spec =

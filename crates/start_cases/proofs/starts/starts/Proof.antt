@@ -3,6 +3,7 @@ use mathlib.Core.Path.{sym}
 use Prim.Native.Nat.{ℕ}
 use lib.ListN.{length-replicate}
 use borrow.Author.Needs.{needs}
+use Rattle.start_cases.proofs.Saying.{said-marks}
 use Rattle.start_cases.proofs.starts.starts.Statement.{statement}
 use Rattle.start_cases.proofs.starts.starts.Tie as tie
 
@@ -16,7 +17,10 @@ starts-in-requires : tie.Need-starts-in-requires
 starts-in-requires c κs = search needs
 
 returns : tie.Need-returns
-returns c = search needs
+returns c =
+    let after-starts-in = c .before .before in
+    let args = after-starts-in .before .before .before .args in
+    said-marks 262208 1048577 (args .t) (args .a) (args .number) (args .finds) (after-starts-in .starts-in .ensures)
 
 pub starts-spec : {M : Type 1} → statement M
 starts-spec =
