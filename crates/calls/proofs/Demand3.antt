@@ -51,7 +51,9 @@ module _ (c : Containers) (b : Lent) (cap fcap : ℕ) (X N : List Triple) (F : L
       let back : (C : Graph) → IsClosure c Y C → Sub C (graph-of (closure c (suc cap) X)) = λ C h. in-computed c cap X Y s C h (a .fits) in
       record {
         ascending = subst (Ascending key-triple) (sym e) (without-zero-ascending (closure c (suc cap) X) (closure-ascending c (suc cap) X));
-        sound = λ C h x y z i. let (j, g) = in-without-zero→ (closure c (suc cap) X) (triple x y z) (subst (In (triple x y z)) e i) in (into C h x y z j, g);
+        sound = λ C h x y z i.
+            let (j, g) = in-without-zero→ (closure c (suc cap) X) (triple x y z) (subst (In (triple x y z)) e i) in
+            (into C h x y z j, g);
         complete = λ C h x y z i g. subst (In (triple x y z)) (sym e) (in-without-zero← (closure c (suc cap) X) (triple x y z) (back C h x y z i) g);
         findings-ascending = subst (Ascending key-finding) (sym f) (findings-ascending (closure c (suc cap) X));
         findings-sound = λ C h m x y z w i. found-up (into C h) (findings→ (closure c (suc cap) X) (subst (In (finding m x y z w)) f i));
@@ -94,13 +96,16 @@ batches tl al ts cs b₁ b₂ b₃ o₁ o₂ o₃ i₁ i₂ i₃ n₁ n₂ n₃ 
       subst (Exact c (A ++ B)) (sym (r₃ .gives)) (exact c b₃ x₃ y₃ (triples (b₃ .load)) (r₃ .answer) (r₃ .row) (r₃ .n) (r₃ .k) (r₃ .runs) (A ++ B) s₃),
     )
 
-each-exact : (tl al : ℕ) (ts : List Term) (cs : List Call) (b : Lent) (o : Run-answer) → In (event (run-on b) (run-gave o)) (events-of tl al ts cs) → o .number ≡ 0
+-- every accepted run of a list
+each-exact : (tl al : ℕ) (ts : List Term) (cs : List Call) (b : Lent) (o : Run-answer)
+    → In (event (run-on b) (run-gave o)) (events-of tl al ts cs) → o .number ≡ 0
     → Exact (containers (terms-after tl al ts cs)) (triples (b .load)) o
 each-exact tl al ts cs b o i n =
     let r = reading tl al ts cs b o i n in
     let c = containers (terms-after tl al ts cs) in
     subst (Exact c (triples (b .load))) (sym (r .gives))
-    (exact c b (length (b .store) / 3) (length (b .findings) / 5) (triples (b .load)) (r .answer) (r .row) (r .n) (r .k) (r .runs) (triples (b .load)) (λ t j. j, λ t j. j))
+    (exact c b (length (b .store) / 3) (length (b .findings) / 5) (triples (b .load)) (r .answer) (r .row) (r .n) (r .k) (r .runs)
+    (triples (b .load)) (λ t j. j, λ t j. j))
 
 pub demand-3 : (table arena : List ℕ) → start-gives table arena .number ≡ 0 → (cs : List Call) → Demand-3 table arena cs
 demand-3 table arena s cs =

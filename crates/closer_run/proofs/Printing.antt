@@ -139,7 +139,8 @@ unfolding output
 output-cut text = ap printed (parse-cut text)
 
 -- as many bytes as were read, or all where there is room for more
-pub output-read : (room : List ℕ) (n : ℕ) (text : List ℕ) → length room ≡ 33005 → take n room ≡ take (length room) text → output (take n room) ≡ output text
+pub output-read : (room : List ℕ) (n : ℕ) (text : List ℕ) → length room ≡ 33005 → take n room ≡ take (length room) text
+    → output (take n room) ≡ output text
 output-read room n text l e = ap output (e ∙ ap (λ (k : ℕ). take k text) l) ∙ output-cut text
 
 -- other bytes that are the same

@@ -340,8 +340,8 @@ ascending-distinct key [] a = tt
 ascending-distinct key (x ∷ xs) a = (λ i. not-before-self key x (a .0 x i), ascending-distinct key xs (a .1))
 
 -- distinct elements that all stand in an ascending list are no more than it has
-pub distinct-length : {A : Type 0} (key : A → List ℕ) → Tells key → (xs ys : List A) → Distinct xs → Ascending key ys → ((z : A) → In z xs → In z ys)
-    → length xs ≤ length ys
+pub distinct-length : {A : Type 0} (key : A → List ℕ) → Tells key → (xs ys : List A) → Distinct xs → Ascending key ys
+    → ((z : A) → In z xs → In z ys) → length xs ≤ length ys
 unfolding insert-all
 distinct-length {A} key tells xs ys d b f =
     omega (

@@ -55,5 +55,6 @@ look-1 d i n =
     record { answers = e; begins = by-number d i e; ordered = omega arith; within = omega arith }
 
 -- the part that was cut out where it was located
-pub looked-up : {place : Located} {d : Dict} {i : ℕ} {answer : Lookup-answer} {p q : ℕ × ℕ} → Locates place d i → answer ≡ located place (d .arena) → q ≡ further p (place .start) → Looks-up answer p q d i
+pub looked-up : {place : Located} {d : Dict} {i : ℕ} {answer : Lookup-answer} {p q : ℕ × ℕ}
+    → Locates place d i → answer ≡ located place (d .arena) → q ≡ further p (place .start) → Looks-up answer p q d i
 looked-up {p = p} l e f = record { answers = e ∙ l .answers; lies = f ∙ ap (further p) (l .begins) }

@@ -117,7 +117,8 @@ pub fn lookup_valid<'a>(
     kind: &mut u32,
 ) -> &'a [u8]
     requires { ⌜ T (valid (contents (now table) (now arena) counters)) ⌝ }
-    ensures { λ r. ⌜ Looks-up (lookup-answer (now (number .exit)) (now (kind .exit)) (now r)) (ptr (arena .entry)) (ptr r) (contents (now (table .entry)) (now (arena .entry)) counters) (id .0) ⌝ }
+    ensures { λ r. ⌜ Looks-up (lookup-answer (now (number .exit)) (now (kind .exit)) (now r)) (ptr (arena .entry)) (ptr r)
+        (contents (now (table .entry)) (now (arena .entry)) counters) (id .0) ⌝ }
 {
     let place = locate(table, arena, counters, id);
     part(arena, place, number, kind)

@@ -106,7 +106,8 @@ pub fn lookup<'a>(
     number: &mut u32,
     kind: &mut u32,
 ) -> &'a [u8]
-    ensures { λ r. ⌜ Looks-up (lookup-answer (now (number .exit)) (now (kind .exit)) (now r)) (ptr (arena .entry)) (ptr r) (contents (now (table .entry)) (now (arena .entry)) counters) (id .0) ⌝ }
+    ensures { λ r. ⌜ Looks-up (lookup-answer (now (number .exit)) (now (kind .exit)) (now r)) (ptr (arena .entry)) (ptr r)
+        (contents (now (table .entry)) (now (arena .entry)) counters) (id .0) ⌝ }
 {
     let place = find_part(table, arena, counters, id);
     part(arena, place, number, kind)

@@ -16,7 +16,9 @@ slice-aggregate-answer-load-2 : tie.Need-slice-aggregate-answer-load-2
 slice-aggregate-answer-load-2 c = sym (length-replicate {A = ℕ} 1179648 0)
 
 answer-load-requires : tie.Need-answer-load-requires
-answer-load-requires c κs = let z = c .before .before .before .before .before .before .before .before .before .before .before in (z .pre .0, z .pre .1, z .pre .2, arrays-unused)
+answer-load-requires c κs =
+    let z = c .before .before .before .before .before .before .before .before .before .before .before in
+    (z .pre .0, z .pre .1, z .pre .2, arrays-unused)
 
 clear-requires : tie.Need-clear-requires
 clear-requires c κs = tt
@@ -28,28 +30,75 @@ clear-from-requires-2 : tie.Need-clear-from-requires-2
 clear-from-requires-2 c κs = tt
 
 same-length : tie.Need-same-length
-same-length c = c .before .before .before .before .before .before .clear-from .kept .0 ∙ c .before .before .before .before .before .before .before .before .before .before .before .before .before .before .before .before .before .before .before .before .before .before .answer-load .kept .1 .1 .1 .1 .0
+same-length c =
+    let after-clear-from = c .before .before .before .before .before .before in
+    let after-answer-load = after-clear-from .before .before .before .before .before .before .before .before .before .before
+    .before .before .before .before .before .before in
+    after-clear-from .clear-from .kept .0 ∙ after-answer-load .answer-load .kept .1 .1 .1 .1 .0
 
 same-length-2 : tie.Need-same-length-2
-same-length-2 c = c .before .before .clear-from2 .kept .0 ∙ c .before .before .before .before .before .before .before .before .before .before .before .before .before .before .before .before .before .before .before .before .before .before .answer-load .kept .1 .1 .1 .1 .1 .0
+same-length-2 c =
+    let after-clear-from2 = c .before .before in
+    let after-answer-load = after-clear-from2 .before .before .before .before .before .before .before .before .before .before
+    .before .before .before .before .before .before .before .before .before .before in
+    after-clear-from2 .clear-from2 .kept .0 ∙ after-answer-load .answer-load .kept .1 .1 .1 .1 .1 .0
 
 same-length-3 : tie.Need-same-length-3
-same-length-3 c = c .before .before .before .before .before .before .before .before .before .before .before .before .clear .kept .0 ∙ c .before .before .before .before .before .before .before .before .before .before .before .before .before .before .before .before .before .before .before .before .before .before .answer-load .kept .1 .1 .1 .1 .1 .1 .0
+same-length-3 c =
+    let after-clear = c .before .before .before .before .before .before .before .before .before .before .before .before in
+    let after-answer-load = after-clear .before .before .before .before .before .before .before .before .before .before in
+    after-clear .clear .kept .0 ∙ after-answer-load .answer-load .kept .1 .1 .1 .1 .1 .1 .0
 
 returns : tie.Need-returns
-returns c = shows-refusal (lent (c .before .before .before .before .before .before .before .before .before .before .before .before .before .before .before .before .before .before .before .before .before .before .before .before .before .before .before .before .before .before .before .before .before .before .args .load .now) (c .before .before .before .before .before .before .before .before .before .before .before .before .before .before .before .before .before .before .before .before .before .before .before .before .before .before .before .before .before .before .before .before .before .before .args .store .now) (c .before .before .before .before .before .before .before .before .before .before .before .before .before .before .before .before .before .before .before .before .before .before .before .before .before .before .before .before .before .before .before .before .before .before .args .findings .now) (c .before .before .before .before .before .before .before .before .before .before .before .before .before .before .before .before .before .before .before .before .before .before .before .before .before .before .before .before .before .before .before .before .before .before .args .work .now)) _ (c .before .before .before .before .before .before .before .before .before .before .before .before .before .before .before .before .before .before .before .before .before .before .answer-load .ensures) (λ e. omega (arith, e, c .before .before .before .before .before .before .before .before .if1 .taken)) (zeros-again (c .before .before .before .before .before .before .before .before .before .before .before .before .before .before .before .before .before .before .before .before .before .before .answer-load .last .1 .1 .1 .1 .0) (c .before .before .before .before .before .before .before .before .before .before .before .before .before .before .before .before .before .before .before .before .before .before .before .before .before .before .before .before .before .before .before .before .before .before .args .store .now) (clear-all (c .before .before .before .before .before .before .before .before .before .before .before .before .before .before .before .before .before .before .before .before .before .before .answer-load .last .1 .1 .1 .1 .0) (c .before .before .before .before .before .before .clear-from .ensures)) (c .before .before .before .before .before .before .before .before .before .before .before .before .before .before .before .before .before .before .before .before .before .before .answer-load .kept .1 .1 .1 .1 .0)) (zeros-again (c .before .before .before .before .before .before .before .before .before .before .before .before .before .before .before .before .before .before .before .before .before .before .answer-load .last .1 .1 .1 .1 .1 .0) (c .before .before .before .before .before .before .before .before .before .before .before .before .before .before .before .before .before .before .before .before .before .before .before .before .before .before .before .before .before .before .before .before .before .before .args .findings .now) (clear-all (c .before .before .before .before .before .before .before .before .before .before .before .before .before .before .before .before .before .before .before .before .before .before .answer-load .last .1 .1 .1 .1 .1 .0) (c .before .before .clear-from2 .ensures)) (c .before .before .before .before .before .before .before .before .before .before .before .before .before .before .before .before .before .before .before .before .before .before .answer-load .kept .1 .1 .1 .1 .1 .0)) (zeros-again (c .before .before .before .before .before .before .before .before .before .before .before .before .before .before .before .before .before .before .before .before .before .before .answer-load .last .1 .1 .1 .1 .1 .1 .0) (c .before .before .before .before .before .before .before .before .before .before .before .before .before .before .before .before .before .before .before .before .before .before .before .before .before .before .before .before .before .before .before .before .before .before .args .work .now) (c .before .before .before .before .before .before .before .before .before .before .before .before .clear .ensures) (c .before .before .before .before .before .before .before .before .before .before .before .before .before .before .before .before .before .before .before .before .before .before .answer-load .kept .1 .1 .1 .1 .1 .1 .0))
+returns c =
+    let after-clear-from2 = c .before .before in
+    let after-clear-from = after-clear-from2 .before .before .before .before in
+    let at-if1 = after-clear-from .before .before in
+    let after-clear = at-if1 .before .before .before .before in
+    let after-answer-load = after-clear .before .before .before .before .before .before .before .before .before .before in
+    let answer-load = after-answer-load .answer-load in
+    let at-start = after-answer-load .before .before .before .before .before .before .before .before .before .before .before
+    .before in
+    let args = at-start .args in
+    shows-refusal (lent (args .load .now) (args .store .now) (args .findings .now) (args .work .now)) _ (answer-load .ensures)
+    (λ e. omega (arith, e, at-if1 .if1 .taken))
+    (zeros-again (answer-load .last .1 .1 .1 .1 .0) (args .store .now)
+    (clear-all (answer-load .last .1 .1 .1 .1 .0) (after-clear-from .clear-from .ensures)) (answer-load .kept .1 .1 .1 .1 .0))
+    (zeros-again (answer-load .last .1 .1 .1 .1 .1 .0) (args .findings .now)
+    (clear-all (answer-load .last .1 .1 .1 .1 .1 .0) (after-clear-from2 .clear-from2 .ensures))
+    (answer-load .kept .1 .1 .1 .1 .1 .0))
+    (zeros-again (answer-load .last .1 .1 .1 .1 .1 .1 .0) (args .work .now) (after-clear .clear .ensures)
+    (answer-load .kept .1 .1 .1 .1 .1 .1 .0))
 
 same-length-4 : tie.Need-same-length-4
-same-length-4 c = c .before .before .before .before .before .before .before .before .before .before .before .before .before .before .answer-load .kept .1 .1 .1 .1 .0
+same-length-4 c =
+    let after-answer-load = c .before .before .before .before .before .before .before .before .before .before .before .before
+    .before .before in
+    after-answer-load .answer-load .kept .1 .1 .1 .1 .0
 
 same-length-5 : tie.Need-same-length-5
-same-length-5 c = c .before .before .before .before .before .before .before .before .before .before .before .before .before .before .answer-load .kept .1 .1 .1 .1 .1 .0
+same-length-5 c =
+    let after-answer-load = c .before .before .before .before .before .before .before .before .before .before .before .before
+    .before .before in
+    after-answer-load .answer-load .kept .1 .1 .1 .1 .1 .0
 
 same-length-6 : tie.Need-same-length-6
-same-length-6 c = c .before .before .before .before .clear .kept .0 ∙ c .before .before .before .before .before .before .before .before .before .before .before .before .before .before .answer-load .kept .1 .1 .1 .1 .1 .1 .0
+same-length-6 c =
+    let after-clear = c .before .before .before .before in
+    let after-answer-load = after-clear .before .before .before .before .before .before .before .before .before .before in
+    after-clear .clear .kept .0 ∙ after-answer-load .answer-load .kept .1 .1 .1 .1 .1 .1 .0
 
 returns-2 : tie.Need-returns-2
-returns-2 c = shows-answer (lent (c .before .before .before .before .before .before .before .before .before .before .before .before .before .before .before .before .before .before .before .before .before .before .before .before .before .before .args .load .now) (c .before .before .before .before .before .before .before .before .before .before .before .before .before .before .before .before .before .before .before .before .before .before .before .before .before .before .args .store .now) (c .before .before .before .before .before .before .before .before .before .before .before .before .before .before .before .before .before .before .before .before .before .before .before .before .before .before .args .findings .now) (c .before .before .before .before .before .before .before .before .before .before .before .before .before .before .before .before .before .before .before .before .before .before .before .before .before .before .args .work .now)) _ (c .before .before .before .before .before .before .before .before .before .before .before .before .before .before .answer-load .ensures) (c .if1 .left) (zeros-again (c .before .before .before .before .before .before .before .before .before .before .before .before .before .before .answer-load .last .1 .1 .1 .1 .1 .1 .0) (c .before .before .before .before .before .before .before .before .before .before .before .before .before .before .before .before .before .before .before .before .before .before .before .before .before .before .args .work .now) (c .before .before .before .before .clear .ensures) (c .before .before .before .before .before .before .before .before .before .before .before .before .before .before .answer-load .kept .1 .1 .1 .1 .1 .1 .0))
+returns-2 c =
+    let after-clear = c .before .before .before .before in
+    let after-answer-load = after-clear .before .before .before .before .before .before .before .before .before .before in
+    let answer-load = after-answer-load .answer-load in
+    let at-start = after-answer-load .before .before .before .before .before .before .before .before .before .before .before
+    .before in
+    let args = at-start .args in
+    shows-answer (lent (args .load .now) (args .store .now) (args .findings .now) (args .work .now)) _ (answer-load .ensures)
+    (c .if1 .left) (zeros-again (answer-load .last .1 .1 .1 .1 .1 .1 .0) (args .work .now) (after-clear .clear .ensures)
+    (answer-load .kept .1 .1 .1 .1 .1 .1 .0))
 
 pub run-load-spec : {M : Type 1} → statement M
 run-load-spec =

@@ -22,7 +22,8 @@ enter-requires-2 c κs =
     let after-enter = c .before .before .before .before in
     let at-start = after-enter .before .before .before .before .before in
     let args = at-start .args in
-    room-lists (args .ix .now) (args .work .now) (triple-of (args .t)) (args .j) (at-start .pre) (after-enter .enter .kept .0) (c .key .ensures)
+    room-lists (args .ix .now) (args .work .now) (triple-of (args .t)) (args .j) (at-start .pre) (after-enter .enter .kept .0)
+    (c .key .ensures)
 
 same-length : tie.Need-same-length
 same-length c = search needs
