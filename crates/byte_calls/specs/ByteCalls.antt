@@ -1,7 +1,6 @@
 -- Lists of calls through the C entry points: each put, lookup and run is lent the dictionary, its table as bytes, as the call before
 -- left it, so what one call writes the next reads. What each gives over bytes, and what it must give, reckoned from the lengths of table
--- and arena in bytes and the calls' other arguments alone. From document 01, 'Demand 3's list of calls' and 'What must change shape'.
--- Assumes nothing.
+-- and arena in bytes and the calls' other arguments alone. REFERENCE 8.4 and 9. Assumes nothing.
 use mathlib.Core.List.{List, [], _∷_, map}
 use Prim.Native.Nat.{ℕ, _/_}
 use lib.ListN.{take}
@@ -56,7 +55,7 @@ read-call (put t) = put t
 read-call (lookup i) = lookup i
 read-call (run-on b) = run-on (read-lent b)
 
--- "Bytes follow each other without gaps": a term's begin where those of the terms before it end; 0 and 0 where the lookup is refused
+-- terms' bytes follow each other without gaps, so a term's begin where those of the terms before it end; 0 and 0 after a refusal
 unfoldable pub reckon-place : List Term → ℕ → Place-answer
 reckon-place ts i = place-at (size (take i ts)) (reckon-lookup ts i)
 

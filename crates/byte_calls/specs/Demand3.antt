@@ -1,6 +1,6 @@
--- DEMAND 3 OVER BYTES: one claim about every list of calls through the C entry points, from what an accepted start leaves. From document
--- 01, 'Demand 3's list of calls' and 'What must change shape'. The loads and answers of runs are read from the bytes as numbers; the
--- rest is `Demand-3` of calls. proofs/Demand3.antt proves it. Assumes nothing.
+-- DEMAND 3 OVER BYTES: one claim about every list of calls through the C entry points, from what an accepted start leaves. REFERENCE 8.4.
+-- The loads and answers of runs are read from the bytes as numbers; the rest is `Demand-3` of calls. proofs/Demand3.antt proves it.
+-- Assumes nothing.
 use mathlib.Core.Path.{_≡_}
 use mathlib.Core.Logic.{_≢_}
 use mathlib.Core.List.{List, _++_}

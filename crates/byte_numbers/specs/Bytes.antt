@@ -1,6 +1,5 @@
--- Buffers of bytes at the C boundary, and the numbers that they hold. From document 01, 'What must change shape': "C entry points on
--- numbers and byte slices, ids little-endian. A byte length that is no multiple of 4 is 2 for a load, 1 for a table after the start,
--- else 4." Assumes nothing.
+-- Buffers of bytes at the C boundary, and the numbers that they hold, little-endian. REFERENCE 9.1; a length that is no multiple of 4: 9.2.
+-- Assumes nothing.
 use mathlib.Core.Bool.{Bool, _||_}
 use mathlib.Core.List.{List, [], _∷_}
 use Prim.Native.Nat.{ℕ, _+_, _*_, _/_, _%_, _<_}
@@ -30,7 +29,7 @@ Fit-bytes (n ∷ l) = (n < 4294967296) × Fit-bytes l
 unfoldable pub read-buffer : List ℕ → List ℕ
 read-buffer b = if (eqb (length b % 4) 0) (λ _. numbers-of b) (λ _. 0 ∷ [])
 
--- "Refusals 1 to 7 and 10 to 12 change no buffer": whether a call that answers n may have changed one
+-- whether a call that answers n may have changed a buffer: refusals 1 to 7 and 10 to 12 change none. REFERENCE 1.7
 unfoldable pub changes : ℕ → Bool
 changes n = eqb n 0 || (eqb n 8 || eqb n 9)
 

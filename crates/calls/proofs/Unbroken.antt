@@ -20,7 +20,7 @@ use Rattle.common.proofs.Lists.{in-nil, in-cons, and→}
 use Rattle.calls.specs.Calls.{Call, put, lookup, run-on, reckon, Event, event, events-of, number-of}
 use Rattle.calls.specs.Demand3.{answer}
 
--- the stops after refusal 1
+-- the refusals after refusal 1
 abbrev past-1 : List Stop → Bool
 past-1 [] = true
 past-1 (s ∷ r) = ltb 1 (s .number) && past-1 r

@@ -1,7 +1,6 @@
 -- Lists of calls: each put, lookup and run is lent the dictionary as the call before left it. What each gives over contents, and what
--- it must give, reckoned from the lengths of table and arena and the calls' other arguments alone. From document 01, 'Demand 3's list
--- of calls'. A call added later that is lent the dictionary is one more constructor of `Call`, and a line in each definition. Assumes
--- nothing.
+-- it must give, reckoned from the lengths of table and arena and the calls' other arguments alone. REFERENCE 8.1 and 8.2. A further
+-- kind of call that is lent the dictionary is one more constructor of `Call`, and a line in each definition. Assumes nothing.
 use mathlib.Core.List.{List, [], _∷_}
 use Prim.Native.Nat.{ℕ}
 use Rattle.term_layout.specs.Terms.{Term}
@@ -33,7 +32,7 @@ call-gives d (put t) = let a = put-gives d t in record { out = put-gave (a .numb
 call-gives d (lookup i) = record { out = lookup-gave (lookup-gives d i); contents = d }
 call-gives d (run-on b) = let a = run-gives d b in record { out = run-gave (a .answer); contents = a .contents }
 
--- RECKONED from the terms held: "urn:_, the start's, then each new one that an accepted put, or a run that passes 7, brings, in order"
+-- RECKONED from the terms held: urn:_, the start's, then each new one that an accepted put, or a run that passes 7, brings, in order
 pub record Reckoned : Type 0 where
   pub out : Out
   pub held : List Term

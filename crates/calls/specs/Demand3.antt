@@ -1,6 +1,5 @@
--- DEMAND 3: one claim about every list of calls from what an accepted start leaves. From document 01, 'Demand 3's list of calls', and
--- the mission's demand 3: "every call gives what document 01 says, and closing A, then A's answer with B, gives the same as closing A and
--- B together". proofs/Demand3.antt proves it. Assumes nothing.
+-- DEMAND 3: one claim about every list of calls from what an accepted start leaves: every call gives what it must, and closing A, then
+-- A's answer with B, gives the same as closing A and B together. REFERENCE 8. proofs/Demand3.antt proves it. Assumes nothing.
 use mathlib.Core.Path.{_≡_}
 use mathlib.Core.Logic.{_≢_}
 use mathlib.Core.List.{List, _++_}
@@ -26,7 +25,7 @@ answer o = triples (take (3 * o .count) (o .store))
 abbrev pub found : Run-answer → List Finding
 found o = findings-of (take (5 * total (o .counts)) (o .findings))
 
--- "the same triples, findings, triple count and five counts"
+-- the same triples, findings, triple count and five counts. REFERENCE 8.3
 pub record Agree (o o′ : Run-answer) : Type 0 where
   pub same-triples : answer o ≡ answer o′
   pub same-findings : found o ≡ found o′

@@ -1,6 +1,5 @@
--- The findings buffer: n records of five numbers, with the five counts. From document 01: "findings not 5 per record or over 65,535
--- records", "findings full: more findings than records", "five counts, one for each check", and "findings the same": strictly
--- ascending, then zeros. Assumes nothing.
+-- The findings buffer: n records of five numbers, with the five counts, one for each check; strictly ascending, then zeros; refusal 9
+-- where there are more findings than records. REFERENCE 3.4 and 7.2. Assumes nothing.
 use mathlib.Core.Path.{_≡_}
 use mathlib.Core.Bool.{true, false}
 use mathlib.Core.List.{List, [], _∷_, _++_}
@@ -36,7 +35,7 @@ pub record Ready (f : List ℕ) (a : Checked) : Type 0 where
   pub few : length f ≤ 5 * 65535
   pub counts : a .counts ≡ five-counts (finding-rows (a .n) f)
 
--- "findings full": a record of C is not among those appended, and there is no room for it
+-- refusal 9, findings full: a record of C is not among those appended, and there is no room for it
 pub record Missing (C : Finding → Type 0) (f : List ℕ) (n : ℕ) (xs : List Finding) : Type 0 where
   pub short : length f < 5 * n + 5
   pub what : Finding

@@ -1,5 +1,5 @@
--- The pairs of rows that give a finding: an axiom and an assertion that violates it. From document 01, the findings table: "Finding" and
--- "Holds when", a check by its W3C name. For cls-nothing2 the assertion is the axiom itself. Assumes nothing.
+-- The pairs of rows that give a finding: an axiom and an assertion that violates it, a check by its W3C name. REFERENCE 7.1. For
+-- cls-nothing2 the assertion is the axiom itself. Assumes nothing.
 use mathlib.Core.Path.{_≡_}
 use mathlib.Core.Logic.{_≢_}
 use mathlib.Core.Bool.{Bool, true, false}
@@ -56,20 +56,20 @@ is-check PrpAsyp = true
 is-check PrpPdw = true
 is-check ClsNothing2 = true
 
--- Assertions u that violate an axiom t. "i type c, i type d, c disjointWith d, i not 0"
+-- Assertions u that violate an axiom t. Check 1: i type c, i type d, c disjointWith d, i not 0
 pub record TypedByBoth (R : Graph) (t u : Triple) : Type 0 where
   pub typed : u .p ≡ type
   pub class : u .o ≡ t .s
   pub other : R (u .s) type (t .o)
   pub nonzero : u .s ≢ 0
 
--- "p irreflexive, s p s, s not 0"
+-- check 2: p irreflexive, s p s, s not 0
 pub record Reflexive (t u : Triple) : Type 0 where
   pub property : u .p ≡ t .s
   pub same : u .s ≡ u .o
   pub nonzero : u .s ≢ 0
 
--- "p asymmetric, a p b, b p a, none 0"
+-- check 3: p asymmetric, a p b, b p a, none 0
 pub record BothWays (R : Graph) (t u : Triple) : Type 0 where
   pub property : u .p ≡ t .s
   pub back : R (u .o) (t .s) (u .s)
@@ -77,7 +77,7 @@ pub record BothWays (R : Graph) (t u : Triple) : Type 0 where
   pub nonzero-a : u .s ≢ 0
   pub nonzero-b : u .o ≢ 0
 
--- "p propertyDisjointWith q, a p b, a q b, none 0"
+-- check 4: p propertyDisjointWith q, a p b, a q b, none 0
 pub record RelatedByBoth (R : Graph) (t u : Triple) : Type 0 where
   pub property : u .p ≡ t .s
   pub other : R (u .s) (t .o) (u .o)
@@ -86,7 +86,7 @@ pub record RelatedByBoth (R : Graph) (t u : Triple) : Type 0 where
   pub nonzero-p : t .s ≢ 0
   pub nonzero-q : t .o ≢ 0
 
--- "i type Nothing, i not 0"
+-- check 5: i type Nothing, i not 0
 pub record OfNothing (t u : Triple) : Type 0 where
   pub instance : u .s ≡ t .s
   pub typed : u .p ≡ type
@@ -102,7 +102,7 @@ Violates PrpAsyp R t u = BothWays R t u
 Violates PrpPdw R t u = RelatedByBoth R t u
 Violates ClsNothing2 R t u = OfNothing t u
 
--- the record of the finding, "Records start with the check's number"
+-- the record of the finding, which starts with the check's number
 abbrev pub finding-by : CheckKind → Triple → Triple → Finding
 finding-by NoCheck t u = finding 0 0 0 0 0
 finding-by CaxDw t u = finding 1 (u .s) (t .s) (t .o) 0

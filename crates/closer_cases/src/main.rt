@@ -1,5 +1,5 @@
-// Runs what program closer runs on many inputs and prints each output. The file stdout was written by hand from document 01, case by case in
-// the order below, and then compared with harness/model, which is written from that document alone.
+// Runs what program closer runs on many inputs and prints each output. The file stdout was written by hand from docs/REFERENCE.md, 10, case
+// by case in the order below, and then compared with harness/model, the reference model.
 use closer_input::input::find;
 use closer_input::output::put_bytes;
 use closer_input::output::put_line;
@@ -30,7 +30,7 @@ fn counted(input: &[u8]) {
     io::write_all(1, b"\n");
 }
 
-// The worked example, with and without its last line feed; then the other cases of the document's list.
+// The example of REFERENCE 10.4, with and without its last line feed; then the other cases of REFERENCE 11.1.
 fn answers() {
     shown(b"3\n31 1 32\n32 8 33\n");
     shown(b"3\n31 1 32\n32 8 33");

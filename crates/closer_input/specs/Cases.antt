@@ -1,5 +1,5 @@
--- Inputs with their outcomes, and outputs, written by hand from document 01, 'Tried on the drums', one table; proofs/Cases.antt proves it by
--- one theorem over the definitions, and crate closer_input_cases runs the code on it. Assumes nothing.
+-- Inputs with their outcomes, and outputs, written by hand from REFERENCE 10, one table; proofs/Cases.antt proves it by one theorem over
+-- the definitions, and crate closer_input_cases runs the code on it. Assumes nothing.
 use mathlib.Core.Path.{_≡_}
 use mathlib.Core.List.{List, [], _∷_, _++_}
 use Prim.Native.Nat.{ℕ, zero, suc}
@@ -57,7 +57,7 @@ cases =
     -- ids: 0, and the largest
     read "0\n0 1 4294967295\n" (input 0 (0 ∷ 1 ∷ 4294967295 ∷ [])) ∷
     read "0\n0 1 4294967296\n" (bad-line 2) ∷
-    -- another shape of an id line: empty, a leading zero, two spaces, a space in front, at the end, a carriage return, a sign, two ids, four
+    -- another shape of an id line: empty, a leading zero, two spaces, a space in front, at the end, a carriage return, a sign, 2 ids, 4
     read "3\n\n" (bad-line 2) ∷
     read "3\n31 01 32\n" (bad-line 2) ∷
     read "3\n31  1 32\n" (bad-line 2) ∷

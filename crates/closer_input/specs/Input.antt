@@ -1,7 +1,5 @@
--- What program closer reads. From document 01, 'Tried on the drums': "a count N (0 to 500) .. then lines of three ids; at most 1,000 such
--- lines .. Numbers are digits without leading zeros, at most 4294967295, one space between. Each line ends in a line feed, which the
--- last may lack. Another shape, a count over 500 or missing, or a line too many, prints only "bad line" and the first such line's
--- number, from 1". Assumes nothing.
+-- What program closer reads: a count N, 0 to 500, then at most 1,000 lines of three ids, or the number of the first bad line.
+-- REFERENCE 10.1 and 10.2. Assumes nothing.
 use mathlib.Core.Option.{Option, some, none}
 use mathlib.Core.List.{List, [], _∷_, _++_}
 use Prim.Native.Nat.{ℕ, suc}
@@ -24,11 +22,11 @@ unfoldable pub parts : ℕ → List (List ℕ) → List ℕ → List (List ℕ)
 parts e rest [] = rest
 parts e rest (b ∷ bs) = if (eqb b e) (λ _. [] ∷ parts e rest bs) (λ _. onto b (parts e rest bs))
 
--- lines end in a line feed, "which the last may lack": nothing after the last line feed is no line
+-- lines end in a line feed, which the last may lack: nothing after the last line feed is no line
 abbrev pub lines : List ℕ → List (List ℕ)
 lines = parts 10 []
 
--- the fields of a line, "one space between": nothing after the last space is an empty field
+-- the fields of a line, one space between: nothing after the last space is an empty field
 abbrev pub fields : List ℕ → List (List ℕ)
 fields = parts 32 ([] ∷ [])
 
@@ -37,7 +35,7 @@ abbrev pub on : {A B : Type 0} → Option A → (A → B) → (Unit {0} → B) �
 on (some a) f g = f a
 on none f g = g tt
 
--- an id: "at most 4294967295"
+-- an id: at most 4294967295
 abbrev pub id : List ℕ → Option ℕ
 id = number 4294967295
 
@@ -53,7 +51,7 @@ three-ids (a ∷ b ∷ c ∷ d ∷ fs) = none
 unfoldable pub id-line : List ℕ → Option (List ℕ)
 id-line l = three-ids (fields l)
 
--- "a count N (0 to 500)"
+-- the count N, 0 to 500
 abbrev pub count-line : List ℕ → Option ℕ
 count-line = number 500
 
@@ -67,13 +65,13 @@ pub record Reading : Type 0 where
 abbrev pub reading : ℕ → List ℕ → Option ℕ → Reading
 reading n is k = record { count = n; ids = is; bad = k }
 
--- the lines from line k on, after the count n and lines of the ids `is`; "at most 1,000 such lines", so the last is line 1,001
+-- the lines from line k on, after the count n and lines of the ids `is`; at most 1,000 such lines, so the last is line 1,001
 unfoldable pub id-lines : ℕ → ℕ → List ℕ → List (List ℕ) → Reading
 id-lines n k is [] = reading n is none
 id-lines n k is (l ∷ ls) =
     if (leb k 1001) (λ _. on (id-line l) (λ t. id-lines n (suc k) (is ++ t) ls) (λ _. reading n is (some k))) (λ _. reading n is (some k))
 
--- "a count .. missing": a text of no lines has no line 1, which is bad
+-- the count is missing: a text of no lines has no line 1, which is bad
 abbrev pub read-lines : List (List ℕ) → Reading
 read-lines [] = reading 0 [] (some 1)
 read-lines (l ∷ ls) = on (count-line l) (λ n. id-lines n 2 [] ls) (λ _. reading 0 [] (some 1))

@@ -1,6 +1,5 @@
--- What program closer prints. From document 01, 'Tried on the drums': "prints only "bad line" and the first such line's number, from 1,
--- as "bad line 2" .. A refused run prints its number and two zeros .. print "0 9 0" (refusal, triples, findings), then s p o .. Findings
--- would follow, five numbers a line"; and the names that it puts, "urn:t1 to urn:tN". Assumes nothing.
+-- What program closer prints: the answer and the findings of an accepted run, a refusal, or a bad line, REFERENCE 10.2 and 10.4; and the
+-- names that it puts, urn:t1 to urn:tN, REFERENCE 10.1. Assumes nothing.
 use mathlib.Core.List.{List, [], _∷_, _++_}
 use Prim.Native.Nat.{ℕ, zero, suc}
 use lib.ListN.{length, take, drop}

@@ -1,4 +1,5 @@
--- "Dictionary and list work buffer are large enough": of a run's refusals the program prints 5, 6, 8 and 9 alone. Assumes nothing.
+-- Dictionary and list work buffer are large enough: of a run's refusals the program prints 5, 6, 8 and 9 alone. REFERENCE 10.3. Assumes
+-- nothing.
 use mathlib.Core.Path.{_≡_, refl, sym, ap, subst, _∙_}
 use mathlib.Core.Logic.{_⊎_, inl, inr}
 use mathlib.Core.Bool.{Bool, true, false, not}

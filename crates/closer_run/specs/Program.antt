@@ -1,6 +1,5 @@
--- What program closer prints for an input. From document 01, 'Tried on the drums': "a count N (0 to 500), upon which it puts named nodes
--- urn:t1 to urn:tN, then lines of three ids .. store 2,000, findings 400 .. Dictionary and list work buffer are large enough. A refused
--- run prints its number and two zeros". Assumes nothing.
+-- What program closer prints for an input: it puts the named nodes urn:t1 to urn:tN, closes the load in a store of 2,000 triples with
+-- findings of 400 records, and prints the answer, or the refusal. REFERENCE 10. Assumes nothing.
 use mathlib.Core.List.{List}
 use Prim.Native.Nat.{ℕ, zero, suc, _*_}
 use lib.ListN.{replicate}

@@ -1,4 +1,4 @@
--- The starred cases of document 01 hold of the definitions: one theorem over the table of specs/Cases.antt. Assumes nothing.
+-- The worked cases of REFERENCE 11 hold of the definitions: one theorem over the table of specs/Cases.antt. Assumes nothing.
 use mathlib.Core.Path.{refl}
 use Rattle.common.specs.Triples.{insert, insert-all}
 use Rattle.common.specs.ListSets.{representative, members}

@@ -1,4 +1,4 @@
--- Refusals 8 and 9 in the words of document 01, over any set that is the closure of the load. Assumes nothing.
+-- Refusals 8 and 9 in the words of REFERENCE 1.5, over any set that is the closure of the load. Assumes nothing.
 use mathlib.Core.Path.{_≡_, sym, _∙_}
 use mathlib.Core.List.{List}
 use Prim.Native.Nat.{ℕ, suc, _≤_}

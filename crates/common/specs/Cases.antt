@@ -1,5 +1,5 @@
--- The cases marked * in document 01, 'Tried on the drums', one table. Models of terms with ids up to 35, so that a run puts its three
--- terms as 36, 37 and 38; where a bullet names only a part of the answer, the whole of it was reckoned by hand from the rules.
+-- The worked cases, REFERENCE 11.1 and 11.2, one table. Models of terms with ids up to 35, so that a run puts its three terms as 36, 37
+-- and 38; where the reference names only a part of the answer, the whole of it was reckoned by hand from the rules.
 -- proofs/Cases.antt proves the table by one theorem over the definitions. Assumes nothing.
 use mathlib.Core.Path.{_≡_}
 use mathlib.Core.Bool.{Bool, true, false}

@@ -1,5 +1,5 @@
--- Container properties. From document 01, 'What the closure starts from': "a named node of the rdf namespace whose local name
--- is `_` and ASCII digits, at least one, of value 1 to 18446744073709551615". Leading zeros are digits. Assumes nothing.
+-- Container properties: named nodes of the rdf namespace whose local name is `_` and ASCII digits, at least one, of value 1 to
+-- 18446744073709551615. Leading zeros are digits. REFERENCE 4.2. Assumes nothing.
 use mathlib.Core.Bool.{Bool, true, false, _&&_}
 use mathlib.Core.List.{List, [], _∷_}
 use Prim.Native.Nat.{ℕ, _+_, _-_, _*_}

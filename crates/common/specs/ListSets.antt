@@ -1,6 +1,6 @@
--- List sets. From document 01, 'What the closure starts from': "Nodes joined by rdf:rest, other than to object nil, are one
--- group; every rdf:first object of the group is a member. An object naming any node of the group means the whole group. No
--- member: no list." First in words, then computed; the two are proved to be one. Assumes nothing.
+-- List sets, REFERENCE 5.2: nodes joined by rdf:rest, other than to object nil, are one group, and every rdf:first object of the group
+-- is a member. An object that names any node of the group means the whole group; a group without a member is no list. First in words,
+-- then computed; the two are proved to be one. Assumes nothing.
 use mathlib.Core.Logic.{_≢_}
 use mathlib.Core.Bool.{Bool, true, false, _&&_, not}
 use mathlib.Core.List.{List, [], _∷_}
@@ -20,7 +20,7 @@ pub data Joined (S : Graph) : ℕ → ℕ → Type 0 where
 abbrev pub MemberOf : Graph → ListSets
 MemberOf S l m = (n : ℕ) × Joined S l n × S n first m
 
--- "joined by rdf:rest, other than to object nil"
+-- the triple joins its subject and its object: its predicate is rdf:rest and its object is not nil
 abbrev pub joins : Triple → Bool
 joins t = eqb (t .p) rest && not (eqb (t .o) nil)
 

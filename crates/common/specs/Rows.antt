@@ -1,5 +1,5 @@
--- Triples and findings as rows of numbers, as load, store and findings hold them. From document 01, 'Results and the twelve
--- stops': 3 numbers per triple, 5 per record, "strictly ascending, then zeros". Assumes nothing.
+-- Triples and findings as rows of numbers, as load, store and findings hold them: 3 numbers a triple, 5 a record, then zeros.
+-- REFERENCE 1.3 and 3.4. Assumes nothing.
 use mathlib.Core.List.{List, [], _∷_, _++_}
 use Prim.Native.Nat.{ℕ, _-_}
 use lib.ListN.{length, replicate}

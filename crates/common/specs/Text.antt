@@ -1,4 +1,4 @@
--- The bytes of a text of ASCII characters, so that IRIs can be written as document 01 writes them. Assumes nothing.
+-- The bytes of a text of ASCII characters, so that IRIs can be written as texts. Assumes nothing.
 use Prim.Native.Nat.{ℕ}
 use Prim.Native.Char.{Char, code}
 use Prim.Native.String.{String, [], _∷_}

@@ -1,11 +1,11 @@
 -- Triples and findings, their order, and lists of them that ascend without repeats.
--- From document 01: its first paragraph (ids, "s p o", the order of triples) and the findings table. Assumes nothing.
+-- REFERENCE 1.1, 1.2 and 7.2. Assumes nothing.
 use mathlib.Core.Path.{_≡_}
 use mathlib.Core.Bool.{Bool, true, false}
 use mathlib.Core.List.{List, [], _∷_, _++_}
 use Prim.Native.Nat.{ℕ, compare, Ordering, Ordering·lt, Ordering·eq, Ordering·gt}
 
--- "s p o": a triple of ids, subject, predicate, object
+-- s p o: a triple of ids, subject, predicate, object
 pub record Triple : Type 0 where
   pub s : ℕ
   pub p : ℕ
@@ -14,7 +14,7 @@ pub record Triple : Type 0 where
 abbrev pub triple : ℕ → ℕ → ℕ → Triple
 triple x y z = record { s = x; p = y; o = z }
 
--- a finding: the check's number, then the four numbers of the findings table
+-- a finding: the check's number, then the four numbers of REFERENCE 7.1
 pub record Finding : Type 0 where
   pub check : ℕ
   pub a : ℕ
@@ -40,7 +40,7 @@ abbrev pub concat-map : {A B : Type 0} → List A → (A → List B) → List B
 concat-map [] f = []
 concat-map (x ∷ xs) f = f x ++ concat-map xs f
 
--- "ordered by s, then p, then o": of two rows of numbers the first place where they differ decides
+-- ordered by s, then p, then o: of two rows of numbers the first place where they differ decides. REFERENCE 1.2
 abbrev pub then : Ordering → (Unit {0} → Ordering) → Ordering
 then Ordering·lt f = Ordering·lt
 then Ordering·eq f = f tt
@@ -62,7 +62,7 @@ key-finding x = x .check ∷ x .a ∷ x .b ∷ x .c ∷ x .d ∷ []
 abbrev pub Before : {A : Type 0} → (A → List ℕ) → A → A → Type 0
 Before key x y = lex (key x) (key y) ≡ Ordering·lt
 
--- "strictly ascending": each element stands before all that follow it
+-- strictly ascending: each element stands before all that follow it. REFERENCE 1.2
 abbrev pub Ascending : {A : Type 0} → (A → List ℕ) → List A → Type 0
 Ascending key [] = Unit {0}
 Ascending {A} key (x ∷ xs) = ((y : A) → In y xs → Before key x y) × Ascending key xs

@@ -1,4 +1,4 @@
--- The triple that a value of the type Triple of src/ stands for. From document 01, "a triple of ids". Assumes nothing.
+-- The triple that a value of the type Triple of src/ stands for. REFERENCE 1.2. Assumes nothing.
 use Rattle.common.specs.declared.Triple as declared
 use Rattle.common.specs.Triples.{Triple, triple}
 

@@ -1,5 +1,5 @@
--- The thirty vocabulary ids. From document 01, 'Dictionary': "A start puts, as `Reasoner::new` does: rdf type 1, first 2, ..".
--- The constants of the type Vocab in src/ are these numbers (its function `all`). Assumes nothing.
+-- The thirty vocabulary ids, those of the terms that a start puts. REFERENCE 2.5.
+-- The constants of the type Vocab in src/ are these numbers (function `vocabulary`). Assumes nothing.
 use mathlib.Core.List.{List, [], _∷_}
 use Prim.Native.Nat.{ℕ}
 

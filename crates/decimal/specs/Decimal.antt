@@ -1,5 +1,4 @@
--- Decimal numbers, read and written. From document 01, 'Tried on the drums': "Numbers are digits without leading zeros, at
--- most 4294967295".
+-- Decimal numbers, read and written: digits without leading zeros, at most 4294967295 in an input. REFERENCE 10.1 and 10.4.
 -- proofs/Numerals.antt shows that the two agree: `number` reads exactly what `digits` writes. Assumes nothing.
 use mathlib.Core.Bool.{Bool, true, false, _&&_, not}
 use mathlib.Core.Option.{Option, some, none}

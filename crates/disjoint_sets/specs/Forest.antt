@@ -1,5 +1,5 @@
 -- Groups as trees: the first number of a term is the place of its parent, and a term that is its own parent is the root of its
--- group. Document 01, "`UnionFind` [becomes] a parent row". Assumes nothing.
+-- group. They take the place of the original's `UnionFind`, REFERENCE 12.3. Assumes nothing.
 use mathlib.Core.Path.{_≡_}
 use mathlib.Core.Logic.{_⊎_}
 use mathlib.Core.List.{List}

@@ -1,5 +1,5 @@
--- The groups of the starting triples, the first n rows of the store. From document 01, 'What the closure starts from': "Nodes
--- joined by rdf:rest, other than to object nil, are one group". Assumes nothing.
+-- The groups of the starting triples, the first n rows of the store: nodes joined by rdf:rest, other than to object nil, are one group.
+-- REFERENCE 5.2. Assumes nothing.
 use mathlib.Core.Path.{_≡_}
 use mathlib.Core.Logic.{_⊎_, _≢_}
 use mathlib.Core.List.{List}
@@ -30,7 +30,7 @@ pub record StartRows (terms : ℕ) (store : List ℕ) (n : ℕ) : Type 0 where
   pub subjects : (j : ℕ) → j < n → rowAt store j .s < terms
   pub objects : (j : ℕ) → j < n → rowAt store j .o < terms
 
--- "joined by rdf:rest, other than to object nil"
+-- joined by rdf:rest, other than to object nil
 pub record Edge (t : Triple) : Type 0 where
   pub is-rest : t .p ≡ rest
   pub not-nil : t .o ≢ nil

@@ -1,5 +1,5 @@
--- Ids and places in the list work buffer. From document 01: "list work buffer under 2 numbers for each term", and "A term's id
--- and its place in the list work buffer never stand for each other, as `uri2idx` and `idx2uri` show". Assumes nothing.
+-- Ids and places in the list work buffer, which has 2 numbers for each term, REFERENCE 1.3. A term's id and its place never stand for
+-- each other; `uri2idx` and `idx2uri` alone convert, REFERENCE 12.2. Assumes nothing.
 use mathlib.Core.Path.{_≡_}
 use mathlib.Core.List.{List}
 use Prim.Native.Nat.{ℕ, _+_, _*_, _/_, _^_, _≤_, _<_}
@@ -23,7 +23,7 @@ pub record PlaceIn (l : List ℕ) (p : ℕ) : Type 0 where
   pub within : p + 1 < length l
   pub small : p < 2 ^ 32
 
--- "2 numbers for each term", and no more terms than a dictionary holds
+-- 2 numbers for each term, and no more terms than a dictionary holds
 pub record TermRoom (terms : ℕ) (l : List ℕ) : Type 0 where
   pub long : 2 * terms ≤ length l
   pub few : terms ≤ 65535

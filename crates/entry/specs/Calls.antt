@@ -1,6 +1,5 @@
 -- What the C entry points give, and what each leaves in the buffers of bytes that it is lent, for all inputs: what the calls on numbers
--- give for the numbers of the buffers, written back as bytes. From document 01, 'Results and the twelve stops' and 'What must change
--- shape'. Assumes nothing.
+-- give for the numbers of the buffers, written back as bytes. REFERENCE 9. Assumes nothing.
 use mathlib.Core.List.{List}
 use mathlib.Core.Path.{_≡_}
 use Prim.Native.Nat.{ℕ, _+_, _*_, _/_, _%_, _≤_}

@@ -1,4 +1,4 @@
-// The run of document 01: from a load to the answer and its findings, for all inputs.
+// The run, REFERENCE 3.4: from a load to the answer and its findings, for all inputs.
 mod values; // values.rt: what a run answers, with the counters
 
 use index::Counters;

@@ -1,6 +1,5 @@
--- Findings as records. From document 01, 'What must change shape': "findings are also offered as a lent slice of such records, filled by
--- one thin function from the five-number form; unless there is one record for each five numbers it refuses with 4 and changes nothing."
--- Assumes nothing.
+-- Findings as records: a lent slice of them is filled from the five-number form, or refused with 4 and not changed where there is not
+-- one record for each five numbers. REFERENCE 7.3. Assumes nothing.
 use mathlib.Core.Bool.{cond}
 use mathlib.Core.List.{List, [], _∷_}
 use Prim.Native.Nat.{ℕ, zero, suc, _+_, _*_, _/_, _%_}

@@ -4,7 +4,7 @@ ghost use Prim.Native.Nat.{_+_, _*_, _≤_};
 ghost use lib.ListN.{length};
 ghost use Rattle.records.specs.Records.{five-at, plan-for, records-result, records-give};
 
-// A finding: the check's number, then the four numbers of document 01's findings table.
+// A finding: the check's number, then the four numbers of REFERENCE 7.1.
 pub struct Finding {
     pub check: u32,
     pub a: u32,

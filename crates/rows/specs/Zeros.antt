@@ -1,5 +1,5 @@
--- Rows that have an id 0, taken out, and a buffer cleared from a place on. From document 01: "The answer is its triples without an id 0",
--- "then zeros". Assumes nothing.
+-- Rows that have an id 0, taken out, and a buffer cleared from a place on: the answer has no triple with an id 0, and zeros follow it.
+-- REFERENCE 6.4 and 3.4. Assumes nothing.
 use mathlib.Core.Path.{_≡_}
 use mathlib.Core.List.{List, _++_}
 use Prim.Native.Nat.{ℕ, _-_, _*_, _≤_}

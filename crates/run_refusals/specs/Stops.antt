@@ -1,5 +1,5 @@
--- What a run refuses before it puts a term: the number of the first refusal whose condition is met. From document 01, 'Results and the
--- twelve stops': "Run: 1 to 9 in that order; 5 is tried over the whole load before 6". Assumes nothing.
+-- What a run refuses before it puts a term: the number of the first refusal whose condition is met; 5 is tried over the whole load
+-- before 6. REFERENCE 1.5 and 1.6. Assumes nothing.
 use mathlib.Core.Bool.{Bool, not}
 use mathlib.Core.List.{List, [], _∷_}
 use Prim.Native.Nat.{ℕ, _+_, _*_, _%_}
@@ -21,7 +21,7 @@ abbrev pub first-met : List Stop → ℕ
 first-met [] = 0
 first-met (s ∷ r) = if (s .met) (λ _. s .number) (λ _. first-met r)
 
--- refusals 2 to 6, for a dictionary of n terms; "three terms more counted" in 4, held already or not
+-- refusals 2 to 6, for a dictionary of n terms; 4 counts three terms more, held already or not
 abbrev pub run-stops : ℕ → Lent → List Stop
 run-stops n b =
     stop 2 (not (eqb (length (b .load) % 3) 0)) ∷

@@ -1,5 +1,5 @@
--- What stands in the store at the end. From document 01: "The answer is its triples without an id 0", and "The store holds the answer,
--- strictly ascending, then zeros". Assumes nothing.
+-- What stands in the store at the end: the answer, that is the closure's triples without an id 0, strictly ascending, then zeros.
+-- REFERENCE 3.4 and 6.4. Assumes nothing.
 use mathlib.Core.Path.{_≡_}
 use mathlib.Core.List.{List, []}
 use Prim.Native.Nat.{ℕ, _*_, _≤_, _<_, _^_}

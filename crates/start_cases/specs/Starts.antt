@@ -1,6 +1,5 @@
--- What is said of a start in buffers of given lengths. From document 01, 'Results and the twelve stops': "A refusal returns its number,
--- every other number of the result 0", and changes no buffer; an accepted start leaves a dictionary of its 31 terms, of 1,325 bytes.
--- Assumes nothing.
+-- What is said of a start in buffers of given lengths. REFERENCE 3.1: a refused start returns its number and 0 for the counters, and
+-- changes no buffer; an accepted start leaves a dictionary of its 31 terms, of 1,325 bytes. Assumes nothing.
 use mathlib.Core.Bool.{Bool, false, _&&_}
 use mathlib.Core.List.{List, [], _∷_}
 use Prim.Native.Nat.{ℕ}

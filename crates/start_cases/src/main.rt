@@ -1,6 +1,6 @@
 // Starts in buffers of many lengths. A line of standard input has the lengths of table and arena, the number that is said of a start in
 // them, and 0 where it must give that number, or 1 where it must not: a comparison that tests nothing so shows as a difference. The cases
-// with 0 are both sides of each limit in document 01, 'Dictionary', and of the room that the start's terms need; those with 1 name
+// with 0 are both sides of each limit of the lengths, REFERENCE 3.1, and of the room that the start's terms need; those with 1 name
 // another number for starts of each kind. A case that differs is named.
 mod starts; // starts.rt: a start, held to what is said of it
 

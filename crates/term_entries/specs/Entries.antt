@@ -1,5 +1,5 @@
--- What entries of a table say: for the contracts of the functions that read and write them. Document 01, 'Dictionary': "four numbers an
--- entry from id 0: start in the arena, length, kind, next id". Assumes nothing.
+-- What entries of a table say: for the contracts of the functions that read and write them. An entry is four numbers: start in the
+-- arena, length, kind, next id. REFERENCE 2.2. Assumes nothing.
 use mathlib.Core.Path.{_≡_}
 use mathlib.Core.Bool.{Bool}
 use mathlib.Core.List.{List}

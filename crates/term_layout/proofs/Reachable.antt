@@ -1,4 +1,4 @@
--- A dictionary is valid exactly when a start followed by puts leaves it: refusal 1 in document 01's own words. Assumes nothing.
+-- A dictionary is valid exactly when a start followed by puts leaves it: refusal 1 in the words of REFERENCE 2.7. Assumes nothing.
 use mathlib.Core.Path.{_≡_, refl, sym, _∙_, ap, subst}
 use mathlib.Core.Logic.{_⊎_, inl, inr, _≢_}
 use mathlib.Core.Bool.{Bool, true, false}

@@ -1,7 +1,6 @@
 -- What start, put and lookup give, and what each leaves in the buffers that it is lent, for all inputs: refusal 1, else what the terms
--- that the contents name say, laid out again. From document 01, 'Results and the twelve stops': "Start checks 4, 7. Put: 1, 10, 11, 7
--- (7 only for a term not held). Lookup: 1, 12 .. A refusal returns its number, every other number of the result 0, and an empty part
--- for lookup. Refusals 1 to 7 and 10 to 12 change no buffer." Assumes nothing.
+-- that the contents name say, laid out again. REFERENCE 3.1 to 3.3. A refusal returns its number, 0 for every other number of the result
+-- and an empty part for a lookup, and changes no buffer, REFERENCE 1.4 and 1.7. Assumes nothing.
 use mathlib.Core.Path.{_≡_}
 use mathlib.Core.List.{List, [], _∷_}
 use Prim.Native.Nat.{ℕ}

@@ -1,6 +1,5 @@
--- What a dictionary does, reckoned from the lengths of table and arena and from the terms held; and which contents are a
--- dictionary's. From document 01, 'Results and the twelve stops' (refusals 1, 4, 7, 10, 11, 12) and 'Dictionary': "A held term
--- answers its old id". Assumes nothing.
+-- What a dictionary does, reckoned from the lengths of table and arena and from the terms held, REFERENCE 3.1 to 3.3; and which contents
+-- are a dictionary's, REFERENCE 2.7. Refusals 1, 4, 7, 10, 11 and 12: REFERENCE 1.5. Assumes nothing.
 use mathlib.Core.Bool.{Bool, true, false, _&&_}
 use mathlib.Core.Option.{Option, some, none}
 use mathlib.Core.List.{List, [], _∷_, _++_}

@@ -1,6 +1,6 @@
--- The two numbers that are reckoned from a term's kind and bytes in one pass: its chain, which document 01 gives, and its bucket in the
--- hash by which the test for a broken dictionary finds equal terms. Document 01 says nothing of buckets: any function of the term
--- below 65,536 would serve. Assumes nothing.
+-- The two numbers that are reckoned from a term's kind and bytes in one pass: its chain, REFERENCE 2.3, and its bucket in the hash by
+-- which the test for a broken dictionary finds equal terms. The bucket shows in no result: any function of the term below 65,536 would
+-- serve. Assumes nothing.
 use mathlib.Core.List.{List, [], _∷_}
 use Prim.Native.Nat.{ℕ, _+_, _*_, _/_, _%_}
 use Rattle.term_layout.specs.declared.values.Digest.{Digest}

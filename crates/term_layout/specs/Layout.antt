@@ -1,7 +1,6 @@
--- How a list of terms lies in a table, an arena and two counters, and how it is read back. From document 01, 'Dictionary': "The table
--- has 64 chain heads, then four numbers an entry from id 0: start in the arena, length, kind, next id. Records are chained by the
--- next id; zero ends the chain. A term's chain is (kind + sum of its bytes) modulo 64; a new term goes to the front. Bytes follow
--- each other without gaps; unused parts are zero. Id 0 .. stands in no chain". Assumes nothing.
+-- How a list of terms lies in a table, an arena and two counters, and how it is read back: 64 chain heads, then an entry of four numbers
+-- for each term; the bytes without gaps; unused parts zero. REFERENCE 2.2; chains: 2.3; id 0, which stands in no chain: 2.4. Assumes
+-- nothing.
 use mathlib.Core.List.{List, [], _∷_, _++_}
 use Prim.Native.Nat.{ℕ, zero, suc, _+_, _*_, _-_, _%_}
 use lib.Dec.{eqb}

@@ -1,6 +1,5 @@
--- Terms, and those that a start and a run put. From document 01, 'Dictionary': "A term is a kind (1 named node, 2 blank node, 3
--- literal) and bytes", "Id 0 is the named node `urn:_`", "A start puts, as `Reasoner::new` does: ..", "A run then puts ..". Assumes
--- nothing.
+-- Terms, a kind (1 named node, 2 blank node, 3 literal) and bytes, REFERENCE 2.1; and those that a start and a run put, REFERENCE 2.4 to
+-- 2.6. Assumes nothing.
 use mathlib.Core.List.{List, [], _∷_, _++_}
 use Prim.Native.Nat.{ℕ}
 use Prim.Native.String.{String}

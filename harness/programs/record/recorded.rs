@@ -105,10 +105,10 @@ impl Terms {
 
 const HEAD: &str = "# Cases after the tables of OWL 2 Profiles, section 4.3
 
-The first models of the recording, in this order; made by harness/record, which checks each line against the original. 'Rule' is document
-01's number, 0 for a check or a part of the start. A letter is a term of its own, urn:t1 and so on in the order in which they first appear.
-'Alone': without this rule the other rules do not give the conclusion. What eq-trans gives eq-rep-o gives too, and what cax-eqc1 and
-cax-eqc2 give scm-eqc1 and cax-sco do, so no model shows those alone.
+The first models of the recording, in this order; made by harness/record, which checks each line against the original. 'Rule' is the
+number of docs/REFERENCE.md, 6.2, or 0 for a check or a part of the start. A letter is a term of its own, urn:t1 and so on in the order in
+which they first appear. 'Alone': without this rule the other rules do not give the conclusion. What eq-trans gives eq-rep-o gives too, and
+what cax-eqc1 and cax-eqc2 give scm-eqc1 and cax-sco do, so no model shows those alone.
 
 | Model | Name | Rule | Load | Conclusion | Holds | Alone |
 |---|---|---|---|---|---|---|
