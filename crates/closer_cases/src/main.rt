@@ -1,5 +1,5 @@
-// Runs what program closer runs on many inputs and prints each output. The file stdout was written by hand from docs/REFERENCE.md, 10, case
-// by case in the order below, and then compared with harness/model, the reference model.
+// Runs what program closer runs on many inputs and prints each output. The file stdout was written by hand as REFERENCE 10 has it, case by
+// case in the order below, and then compared with harness/model, the reference model.
 use closer_input::input::find;
 use closer_input::output::put_bytes;
 use closer_input::output::put_line;

@@ -1,5 +1,5 @@
--- Inputs with their outcomes, and outputs, written by hand from REFERENCE 10, one table; proofs/Cases.antt proves it by one theorem over
--- the definitions, and crate closer_input_cases runs the code on it. Assumes nothing.
+-- Inputs with their outcomes, and outputs, written by hand as REFERENCE 10 has them, one table; proofs/Cases.antt proves it by one
+-- theorem over the definitions, and crate closer_input_cases runs the code on it. Assumes nothing.
 use mathlib.Core.Path.{_≡_}
 use mathlib.Core.List.{List, [], _∷_, _++_}
 use Prim.Native.Nat.{ℕ, zero, suc}

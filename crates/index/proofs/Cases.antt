@@ -1,4 +1,4 @@
--- Cases of start, put and lookup that compute, the expected values written from REFERENCE 2 and 3. Assumes nothing.
+-- Cases of start, put and lookup that compute, the expected values written by hand as REFERENCE 2 and 3 have them. Assumes nothing.
 use mathlib.Core.Path.{_≡_, refl}
 use mathlib.Core.List.{List, [], _∷_}
 use Prim.Native.Nat.{ℕ, _+_, _*_}

@@ -1,6 +1,6 @@
 // Calls the two public functions that are lent structs: index::put, which is lent the counters, and records::findings_as_records, which
-// is lent a slice of findings. What each call must give is written here from REFERENCE 3.2 and 7.3 and compared with what it gives. In the
-// lists of wrong expectations each call has one that is wrong on purpose, and must come out as a difference.
+// is lent a slice of findings. What each call must give is written here as REFERENCE 3.2 and 7.3 have it, and what it gives is compared
+// with that. In the lists of wrong expectations each call has one that is wrong on purpose, and must come out as a difference.
 mod lent; // lent.rt: the two calls, for callers that have the structs by value
 
 use index::Counters;
