@@ -1,4 +1,4 @@
-//! The model of document 01 behind the port's C entry points: what the harness links where there is no port, and with what the
+//! The reference model behind the port's C entry points: what the harness links where there is no port, and with what the
 //! harness itself is tried. With FAULT set in the environment it does one thing wrong, and the programs must notice:
 //!
 //!   rule K      rule K is left out                 zero        triples with an id 0 are dropped early

@@ -18,7 +18,7 @@ const ARENA: usize = 1_048_576;
 const TURNS: usize = 100;
 const BOUND: f64 = 20.0;
 
-// The terms of a start, as document 01 has them.
+// The terms of a start, docs/REFERENCE.md, 2.5.
 fn start_terms() -> Vec<Vec<u8>> {
     let spaces = [
         ("urn:", "_"),

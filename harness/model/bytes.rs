@@ -1,4 +1,4 @@
-//! Document 01, the C entry points: the four calls over byte slices, ids little-endian. A byte length that is no multiple of
+//! The C entry points, docs/REFERENCE.md, 9: the four calls over byte slices, ids little-endian. A byte length that is no multiple of
 //! 4 is 2 for a load, 1 for a table after the start, else 4, each at its place in the order.
 
 use crate::calls::{self, Buffers, Dictionary};

@@ -1,4 +1,4 @@
-//! Document 01, the four calls on numbers: result, refusals in their order, and every buffer after the call.
+//! The four calls on numbers, docs/REFERENCE.md, 3: result, refusals in their order, and every buffer after the call.
 
 use crate::closure::{check, close};
 use crate::dictionary::{self as dict, Term};

@@ -1,4 +1,4 @@
-//! Document 01, "Dictionary": the terms held, and the one way in which a table and an arena hold them.
+//! The dictionary, docs/REFERENCE.md, 2: the terms held, and the one way in which a table and an arena hold them.
 
 use crate::{ARENA_LIMIT, ENTRIES_LIMIT, TERM_LIMIT};
 use std::collections::HashMap;

@@ -1,7 +1,6 @@
-//! An independent model of document 01, written for comparison from the document alone: the dictionary, the closure and the
-//! four calls, each call's result and every buffer after it. It is plain rather than fast, and shares nothing with the port.
-//!
-//! Where the document leaves a point open it takes the readings of docs/DECISIONS.md.
+//! The reference model: an independent model of what docs/REFERENCE.md says, written for comparison, and not from the port: the
+//! dictionary, the closure and the four calls, each call's result and every buffer after it. It is plain rather than fast, and shares
+//! nothing with the port.
 
 pub mod bytes;
 pub mod calls;

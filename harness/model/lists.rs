@@ -1,4 +1,4 @@
-//! Document 01, list sets: nodes joined by rdf:rest, other than to object nil, are one group; every rdf:first object of the
+//! List sets, docs/REFERENCE.md, 5: nodes joined by rdf:rest, other than to object nil, are one group; every rdf:first object of the
 //! group is a member; an object that names any node of the group means the whole group.
 
 use crate::Triple;

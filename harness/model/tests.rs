@@ -1,4 +1,4 @@
-//! The cases that document 01 gives, with its values.
+//! The worked cases of docs/REFERENCE.md, 11, with their values.
 
 use crate::calls::{self, Buffers, Dictionary};
 use crate::dictionary::{is_container_property, layout, starting_terms, Term};

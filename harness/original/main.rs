@@ -1,4 +1,4 @@
-//! Program closer's input and output (document 01) around the original.
+//! Program closer's input and output (docs/REFERENCE.md, 10) around the original.
 //!
 //! original [--terms] [--free] [--store T] [--findings F] [--closure] [--keyed] [--ids] [--time]
 

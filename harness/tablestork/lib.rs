@@ -10,7 +10,7 @@ mod tests;
 pub type Triple = [u32; 3];
 pub type Finding = [u32; 5];
 
-/// The refusals, by the numbers of document 01.
+/// The refusals, by their numbers in docs/REFERENCE.md, 1.5.
 #[derive(Clone, Copy, Debug, PartialEq, Eq, Hash)]
 #[repr(u32)]
 pub enum Refusal {

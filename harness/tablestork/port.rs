@@ -1,7 +1,7 @@
 //! The port's C entry points, and safe calls over byte slices with the same arguments and results. Ids are little-endian.
 //!
 //! This is the one place that names the entry points. They come from the static library that the link line names; in a build
-//! with `--cfg stand_in` the model of document 01 stands in for it (stand_in.rs).
+//! with `--cfg stand_in` the reference model stands in for it (stand_in.rs).
 
 #[cfg(stand_in)]
 extern crate stand_in as _;

@@ -1,4 +1,4 @@
-//! The safe crate on cases of document 01.
+//! The safe crate on worked cases of docs/REFERENCE.md, 11.
 
 use super::*;
 

@@ -1,4 +1,4 @@
-//! damage N [SEED]: N calls on valid and on damaged input, the port against the model of document 01, inside and outside demand 2's
+//! damage N [SEED]: N calls on valid and on damaged input, the port against the reference model, inside and outside demand 2's
 //! domain: every number of the result and every buffer, byte for byte. Exit status 1 where there is a difference.
 //!
 //! The calls come in scenarios of up to 20: a start, then puts, lookups and runs, each lent the dictionary as the one before left

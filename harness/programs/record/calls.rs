@@ -1,4 +1,4 @@
-//! Calls with what they must give, written by hand from document 01: the model that the text's values come from has to agree.
+//! Calls with what they must give, written by hand as docs/REFERENCE.md has it: the model that the text's values come from has to agree.
 
 use crate::memory::*;
 use crate::text::Text;

@@ -1,4 +1,4 @@
-//! The memory that the text's calls read and write, and the four calls on it, made by the model of document 01.
+//! The memory that the text's calls read and write, and the four calls on it, made by the reference model.
 
 use model::calls::{self, Buffers, Dictionary};
 

@@ -1,6 +1,6 @@
 //! The original's answers to a fixed list of models: cases after the tables of OWL 2 Profiles, and random ones.
 //!
-//! Every answer is the original's; the model of document 01 has to agree with it, and tells which rules a model needs.
+//! Every answer is the original's; the reference model has to agree with it, and tells which rules a model needs.
 
 use crate::tables::{Case, Conclusion, CASES, NEAR};
 use generate::{names, small::small, word, Model, Random, FIRST};

@@ -1,4 +1,4 @@
-//! Cases after the tables of OWL 2 Profiles, section 4.3: for each rule that document 01 names its premises and its conclusion.
+//! Cases after the tables of OWL 2 Profiles, section 4.3: for each rule of docs/REFERENCE.md, 6.2, its premises and its conclusion.
 //!
 //! One-letter words are terms, each variable its own; `container`, `almost` and so on are terms of the rdf namespace.
 
@@ -13,9 +13,9 @@ pub enum Conclusion {
 use Conclusion::{Finding, Triple, Zero};
 
 pub struct Case {
-    /// The rule of section 4.3, or what document 01 has in its place.
+    /// The rule of section 4.3 of OWL 2 Profiles, or what docs/REFERENCE.md has in its place.
     pub name: &'static str,
-    /// Its number in document 01; 0 for a check or a part of the start.
+    /// Its number in docs/REFERENCE.md, 6.2; 0 for a check or a part of the start.
     pub rule: u32,
     pub premises: &'static str,
     pub conclusion: Conclusion,
@@ -87,7 +87,7 @@ pub const CASES: &[Case] = &[
     case("rdf:_18446744073709551615", 0, "x _18446744073709551615 y", Triple("_18446744073709551615 type Property")),
 ];
 
-/// Models in which document 01's conclusion must be missing though every premise is there: slips that it names, and near misses.
+/// Models in which a conclusion must be missing though every premise is there: the mistakes of docs/REFERENCE.md, 11.3, and near misses.
 pub const NEAR: &[Case] = &[
     case("rdf:_0 is none", 0, "x _0 y", Triple("x member y")),
     case("rdf:_ is none", 0, "x _ y", Triple("x member y")),
