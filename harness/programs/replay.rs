@@ -1,4 +1,4 @@
-//! replay FILE: reads a text of calls as program replay does (crates/replay/README.md), with the reference model in the port's
+//! replay FILE: reads a text of calls as program replay does (crates/trial_replay/README.md), with the reference model in the port's
 //! place, and prints what that program has to print. A line of another shape, or a cell or length out of range, ends it with status 1.
 
 use model::calls::{lookup, put, run, start, Buffers, Dictionary};

@@ -1,8 +1,8 @@
 // Measures crates rows and sort beside Rust's own on the same rows in one run: sorting beside sort_unstable, appending with repeats
 // beside HashSet. Both take turns, a time is the best of them, and what both leave is compared. Times are the thread's own, so that
 // other work on the machine counts little. From the repository's root:
-//     rt staticlib rows_bench
-//     rustc --edition 2021 -O -o target/rows_bench -L target/staticlib -l static=rows_bench harness/rows_bench/main.rs && target/rows_bench
+//     rt staticlib trial_rows_bench
+//     rustc --edition 2021 -O -o target/rows_bench -L target/staticlib -l static=trial_rows_bench harness/rows_bench/main.rs && target/rows_bench
 use std::collections::HashSet;
 
 extern "C" {

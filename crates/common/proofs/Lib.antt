@@ -1,15 +1,3 @@
 pub mod Lists
 pub mod Order
-pub mod Table
-pub mod Rules
-pub mod Checks
-pub mod ListSets
-pub mod Closure
-pub mod Start
-pub mod LoadClosure
-pub mod Batch
-pub mod Run
-pub mod Refusals
-pub mod Ids
 pub mod Rows
-pub mod Cases

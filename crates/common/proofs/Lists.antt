@@ -40,7 +40,8 @@ module _ {A B : Type 0} where
   in-concat→ [] f h = elim h [ ]
   in-concat→ {y} (x ∷ xs) f h = go (in-cases (f x) h) (λ i. in-concat→ xs f i)
     where
-      go : In y (f x) ⊎ In y (concat-map xs f) → (In y (concat-map xs f) → (z : A) × In z xs × In y (f z)) → (z : A) × In z (x ∷ xs) × In y (f z)
+      go : In y (f x) ⊎ In y (concat-map xs f) → (In y (concat-map xs f) → (z : A) × In z xs × In y (f z))
+          → (z : A) × In z (x ∷ xs) × In y (f z)
       go (inl i) k = (x, here refl, i)
       go (inr j) k = let r = k j in (r .0, there (r .1), r .2)
 
@@ -58,7 +59,8 @@ in-if← true f t h = h
 in-if← false f t h = absurd t
 
 -- a choice
-pub in-choice→ : {A : Type 0} {x : A} (b : Bool) (f g : Unit {0} → List A) → In x (if b f g) → (T b × In x (f tt)) ⊎ (T (not b) × In x (g tt))
+pub in-choice→ : {A : Type 0} {x : A} (b : Bool) (f g : Unit {0} → List A) → In x (if b f g)
+    → (T b × In x (f tt)) ⊎ (T (not b) × In x (g tt))
 in-choice→ true f g h = inl (tt, h)
 in-choice→ false f g h = inr (tt, h)
 

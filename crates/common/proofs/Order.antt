@@ -2,12 +2,14 @@
 use mathlib.Core.Path.{_≡_, refl, sym, _∙_, ap, ap₂, subst}
 use mathlib.Core.Logic.{_⊎_, inl, inr}
 use mathlib.Core.List.{List, [], _∷_}
-use Prim.Native.Nat.{ℕ, zero, suc, _+_, _≤_, _<_, zero-le, suc-le-suc, compare, Ordering, Ordering·lt, Ordering·eq, Ordering·gt, compare·zero-suc, compare·suc-zero, compare·suc-suc}
+use Prim.Native.Nat.{ℕ, zero, suc, _+_, _≤_, _<_, zero-le, suc-le-suc, compare, Ordering, Ordering·lt, Ordering·eq, Ordering·gt}
+use Prim.Native.Nat.{compare·zero-suc, compare·suc-zero, compare·suc-suc}
 use native.Mathlib.Nat.{le-of-suc-le-suc, not-suc-le-zero}
 use native.Mathlib.Omega.{arith}
 use lib.Dec.{T, isEq, isLe}
 use lib.ListN.{length}
-use Rattle.common.specs.Triples.{In, here, there, then, lex, key-triple, key-finding, Before, Ascending, Distinct, place, insert, insert-all}
+use Rattle.common.specs.Triples.{In, here, there, then, lex, key-triple, key-finding, Before, Ascending, Distinct, place, insert}
+use Rattle.common.specs.Triples.{insert-all}
 use Rattle.common.proofs.Lists.{in-nil, in-cons}
 
 -- the three answers differ
@@ -88,7 +90,8 @@ lex-gt [] (y ∷ ys) e = absurd (lt-gt e)
 lex-gt (x ∷ xs) [] e = refl
 lex-gt (x ∷ xs) (y ∷ ys) e = go (then-gt (compare x y) (λ _. lex xs ys) e) (λ h. lex-gt xs ys h)
   where
-    go : (compare x y ≡ Ordering·gt) ⊎ ((compare x y ≡ Ordering·eq) × (lex xs ys ≡ Ordering·gt)) → (lex xs ys ≡ Ordering·gt → lex ys xs ≡ Ordering·lt) → lex (y ∷ ys) (x ∷ xs) ≡ Ordering·lt
+    go : (compare x y ≡ Ordering·gt) ⊎ ((compare x y ≡ Ordering·eq) × (lex xs ys ≡ Ordering·gt))
+        → (lex xs ys ≡ Ordering·gt → lex ys xs ≡ Ordering·lt) → lex (y ∷ ys) (x ∷ xs) ≡ Ordering·lt
     go (inl h) k = lex-lt-head y x ys xs (compare-gt x y h)
     go (inr h) k = lex-lt-tail y x ys xs (sym (compare-eq x y (h .0))) (k (h .1))
 
@@ -98,9 +101,12 @@ lex-trans [] (y ∷ ys) [] e f = absurd (lt-gt (sym f))
 lex-trans [] (y ∷ ys) (z ∷ zs) e f = refl
 lex-trans (x ∷ xs) [] zs e f = absurd (lt-gt (sym e))
 lex-trans (x ∷ xs) (y ∷ ys) [] e f = absurd (lt-gt (sym f))
-lex-trans (x ∷ xs) (y ∷ ys) (z ∷ zs) e f = go (then-lt (compare x y) (λ _. lex xs ys) e) (then-lt (compare y z) (λ _. lex ys zs) f) (λ h i. lex-trans xs ys zs h i)
+lex-trans (x ∷ xs) (y ∷ ys) (z ∷ zs) e f =
+    go (then-lt (compare x y) (λ _. lex xs ys) e) (then-lt (compare y z) (λ _. lex ys zs) f) (λ h i. lex-trans xs ys zs h i)
   where
-    go : (compare x y ≡ Ordering·lt) ⊎ ((compare x y ≡ Ordering·eq) × (lex xs ys ≡ Ordering·lt)) → (compare y z ≡ Ordering·lt) ⊎ ((compare y z ≡ Ordering·eq) × (lex ys zs ≡ Ordering·lt)) → (lex xs ys ≡ Ordering·lt → lex ys zs ≡ Ordering·lt → lex xs zs ≡ Ordering·lt) → lex (x ∷ xs) (z ∷ zs) ≡ Ordering·lt
+    go : (compare x y ≡ Ordering·lt) ⊎ ((compare x y ≡ Ordering·eq) × (lex xs ys ≡ Ordering·lt))
+        → (compare y z ≡ Ordering·lt) ⊎ ((compare y z ≡ Ordering·eq) × (lex ys zs ≡ Ordering·lt))
+        → (lex xs ys ≡ Ordering·lt → lex ys zs ≡ Ordering·lt → lex xs zs ≡ Ordering·lt) → lex (x ∷ xs) (z ∷ zs) ≡ Ordering·lt
     go (inl a) (inl b) k = lex-lt-head x z xs zs (omega (arith, compare-lt x y a, compare-lt y z b))
     go (inl a) (inr b) k = lex-lt-head x z xs zs (omega (arith, compare-lt x y a, compare-eq y z (b .0)))
     go (inr a) (inl b) k = lex-lt-head x z xs zs (omega (arith, compare-eq x y (a .0), compare-lt y z b))
@@ -118,7 +124,8 @@ module _ {A : Type 0} (key : A → List ℕ) where
   not-both x y h i = not-before-self x (lex-trans (key x) (key y) (key x) h i)
 
   -- two ascending lists with the same members are the same list
-  pub same-list : (xs ys : List A) → Ascending key xs → Ascending key ys → ((z : A) → In z xs → In z ys) → ((z : A) → In z ys → In z xs) → xs ≡ ys
+  pub same-list : (xs ys : List A) → Ascending key xs → Ascending key ys → ((z : A) → In z xs → In z ys)
+      → ((z : A) → In z ys → In z xs) → xs ≡ ys
   same-list [] [] a b f g = refl
   same-list [] (y ∷ ys) a b f g = absurd (in-nil (g y (here refl)))
   same-list (x ∷ xs) [] a b f g = absurd (in-nil (f x (here refl)))
@@ -160,7 +167,8 @@ module _ {A : Type 0} (key : A → List ℕ) (tells : Tells key) where
       late (inl e) k = inr (here e)
       late (inr i) k = more (k i)
 
-      go : (o : Ordering) → In z (place o x y ys (λ _. insert key x ys)) → (In z (insert key x ys) → (z ≡ x) ⊎ In z ys) → (z ≡ x) ⊎ In z (y ∷ ys)
+      go : (o : Ordering) → In z (place o x y ys (λ _. insert key x ys)) → (In z (insert key x ys) → (z ≡ x) ⊎ In z ys)
+          → (z ≡ x) ⊎ In z (y ∷ ys)
       go Ordering·lt i k = in-cons i
       go Ordering·eq i k = inr i
       go Ordering·gt i k = late (in-cons i) k
@@ -199,7 +207,8 @@ module _ {A : Type 0} (key : A → List ℕ) (tells : Tells key) where
       later e z (inl i) = subst (Before key y) (sym i) (lex-gt (key x) (key y) e)
       later e z (inr i) = a .0 z i
 
-      go : (o : Ordering) → lex (key x) (key y) ≡ o → Ascending key (insert key x ys) → Ascending key (place o x y ys (λ _. insert key x ys))
+      go : (o : Ordering) → lex (key x) (key y) ≡ o → Ascending key (insert key x ys)
+          → Ascending key (place o x y ys (λ _. insert key x ys))
       go Ordering·lt e k = (λ z i. first e z (in-cons i), a)
       go Ordering·eq e k = a
       go Ordering·gt e k = (λ z i. later e z (in-insert→ x ys i), k)
@@ -210,7 +219,9 @@ module _ {A : Type 0} (key : A → List ℕ) (tells : Tells key) where
   insert-length x [] = inr refl
   insert-length x (y ∷ ys) = go (lex (key x) (key y)) refl (insert-length x ys)
     where
-      go : (o : Ordering) → lex (key x) (key y) ≡ o → (In x ys × (insert key x ys ≡ ys)) ⊎ (length (insert key x ys) ≡ suc (length ys)) → (In x (y ∷ ys) × (place o x y ys (λ _. insert key x ys) ≡ (y ∷ ys))) ⊎ (length (place o x y ys (λ _. insert key x ys)) ≡ suc (length (y ∷ ys)))
+      go : (o : Ordering) → lex (key x) (key y) ≡ o → (In x ys × (insert key x ys ≡ ys))
+          ⊎ (length (insert key x ys) ≡ suc (length ys)) → (In x (y ∷ ys) × (place o x y ys (λ _. insert key x ys) ≡ (y ∷ ys)))
+          ⊎ (length (place o x y ys (λ _. insert key x ys)) ≡ suc (length (y ∷ ys)))
       go Ordering·lt e k = inr refl
       go Ordering·eq e k = inl (here (tells x y (lex-eq (key x) (key y) e)), refl)
       go Ordering·gt e (inl h) = inl (there (h .0), ap (λ l. y ∷ l) (h .1))
@@ -253,7 +264,9 @@ module _ {A : Type 0} (key : A → List ℕ) (tells : Tells key) where
   insert-all-grows [] us = omega arith
   insert-all-grows (x ∷ xs) us = go (insert-length x us) (insert-all-grows xs (insert key x us))
     where
-      go : (In x us × (insert key x us ≡ us)) ⊎ (length (insert key x us) ≡ suc (length us)) → length (insert key x us) ≤ length (insert-all key xs (insert key x us)) → length us ≤ length (insert-all key xs (insert key x us))
+      go : (In x us × (insert key x us ≡ us)) ⊎ (length (insert key x us) ≡ suc (length us))
+          → length (insert key x us) ≤ length (insert-all key xs (insert key x us))
+          → length us ≤ length (insert-all key xs (insert key x us))
       go (inl h) k = omega (arith, ap length (h .1))
       go (inr h) k = omega arith
 
@@ -263,23 +276,29 @@ module _ {A : Type 0} (key : A → List ℕ) (tells : Tells key) where
   no-growth [] us e z h = absurd (in-nil h)
   no-growth (x ∷ xs) us e z h = go (insert-length x us) (in-cons h) (no-growth xs (insert key x us))
     where
-      go : (In x us × (insert key x us ≡ us)) ⊎ (length (insert key x us) ≡ suc (length us)) → (z ≡ x) ⊎ In z xs → (length (insert-all key xs (insert key x us)) ≡ length (insert key x us) → (w : A) → In w xs → In w (insert key x us)) → In z us
+      go : (In x us × (insert key x us ≡ us)) ⊎ (length (insert key x us) ≡ suc (length us)) → (z ≡ x) ⊎ In z xs
+          → (length (insert-all key xs (insert key x us)) ≡ length (insert key x us) → (w : A) → In w xs
+          → In w (insert key x us)) → In z us
       go (inl i) (inl f) k = subst (λ w. In w us) (sym f) (i .0)
       go (inl i) (inr j) k = subst (In z) (i .1) (k (e ∙ ap length (sym (i .1))) z j)
       go (inr i) j k = absurd (omega (arith, insert-all-grows xs (insert key x us)))
 
 -- distinct elements, none of them there: each makes the list longer
 module _ {A : Type 0} (key : A → List ℕ) (tells : Tells key) where
-  pub insert-distinct : (xs us : List A) → Distinct xs → ((x : A) → In x xs → In x us → ⊥) → length (insert-all key xs us) ≡ length xs + length us
+  pub insert-distinct : (xs us : List A) → Distinct xs → ((x : A) → In x xs → In x us → ⊥)
+      → length (insert-all key xs us) ≡ length xs + length us
   unfolding insert-all
   insert-distinct [] us n f = omega arith
-  insert-distinct (x ∷ xs) us n f = go (insert-length key tells x us) (insert-distinct xs (insert key x us) (n .1) (λ y i j. apart y i (in-insert→ key tells x us j)))
+  insert-distinct (x ∷ xs) us n f =
+      go (insert-length key tells x us) (insert-distinct xs (insert key x us) (n .1) (λ y i j. apart y i (in-insert→ key tells x us j)))
     where
       apart : (y : A) → In y xs → (y ≡ x) ⊎ In y us → ⊥
       apart y i (inl e) = n .0 (subst (λ w. In w xs) e i)
       apart y i (inr j) = f y (there i) j
 
-      go : (In x us × (insert key x us ≡ us)) ⊎ (length (insert key x us) ≡ suc (length us)) → length (insert-all key xs (insert key x us)) ≡ length xs + length (insert key x us) → length (insert-all key xs (insert key x us)) ≡ suc (length xs) + length us
+      go : (In x us × (insert key x us ≡ us)) ⊎ (length (insert key x us) ≡ suc (length us))
+          → length (insert-all key xs (insert key x us)) ≡ length xs + length (insert key x us)
+          → length (insert-all key xs (insert key x us)) ≡ suc (length xs) + length us
       go (inl h) k = absurd (f x (here refl) (h .0))
       go (inr h) k = omega arith
 
@@ -315,11 +334,13 @@ finding-tells x y e = λ i. record { check = e₀ i; a = e₁ i; b = e₂ i; c =
     e₄ = cc
 
 -- an ascending list whose members all stand in another is no longer than it
-pub sub-length : {A : Type 0} (key : A → List ℕ) (xs ys : List A) → Ascending key xs → Ascending key ys → ((z : A) → In z xs → In z ys) → length xs ≤ length ys
+pub sub-length : {A : Type 0} (key : A → List ℕ) (xs ys : List A) → Ascending key xs → Ascending key ys
+    → ((z : A) → In z xs → In z ys) → length xs ≤ length ys
 sub-length key [] [] a b f = omega arith
 sub-length key (x ∷ xs) [] a b f = absurd (in-nil (f x (here refl)))
 sub-length key [] (y ∷ ys) a b f = omega arith
-sub-length {A} key (x ∷ xs) (y ∷ ys) a b f = go (in-cons (f x (here refl))) (λ g. sub-length key xs ys (a .1) (b .1) g) (λ g. sub-length key (x ∷ xs) ys a (b .1) g)
+sub-length {A} key (x ∷ xs) (y ∷ ys) a b f =
+    go (in-cons (f x (here refl))) (λ g. sub-length key xs ys (a .1) (b .1) g) (λ g. sub-length key (x ∷ xs) ys a (b .1) g)
   where
     after : x ≡ y → (z : A) → In z xs → (z ≡ y) ⊎ In z ys → In z ys
     after e z i (inl h) = absurd (not-before-self key z (subst (λ w. Before key w z) (e ∙ sym h) (a .0 z i)))
@@ -330,7 +351,8 @@ sub-length {A} key (x ∷ xs) (y ∷ ys) a b f = go (in-cons (f x (here refl))) 
     beyond h z (inl e) (inl j) = subst (λ w. In w ys) (sym e) h
     beyond h z (inr i) (inl j) = absurd (not-both key x y (subst (Before key x) j (a .0 z i)) (b .0 x h))
 
-    go : (x ≡ y) ⊎ In x ys → (((z : A) → In z xs → In z ys) → length xs ≤ length ys) → (((z : A) → In z (x ∷ xs) → In z ys) → suc (length xs) ≤ length ys) → suc (length xs) ≤ suc (length ys)
+    go : (x ≡ y) ⊎ In x ys → (((z : A) → In z xs → In z ys) → length xs ≤ length ys)
+        → (((z : A) → In z (x ∷ xs) → In z ys) → suc (length xs) ≤ length ys) → suc (length xs) ≤ suc (length ys)
     go (inl e) k m = suc-le-suc (k (λ z i. after e z i (in-cons (f z (there i)))))
     go (inr h) k m = let u = m (λ z i. beyond h z (in-cons i) (in-cons (f z i))) in omega arith
 

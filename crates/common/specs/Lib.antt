@@ -1,14 +1,7 @@
 pub mod Text
+pub mod Digits
 pub mod Triples
 pub mod Vocabulary
-pub mod Rules
-pub mod ListSets
-pub mod Containers
-pub mod Start
-pub mod Table
-pub mod Closure
-pub mod Run
 pub mod Rows
-pub mod Batch
 pub mod Values
-pub mod Cases
+pub mod Sizes

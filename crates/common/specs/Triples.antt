@@ -1,8 +1,9 @@
 -- Triples and findings, their order, and lists of them that ascend without repeats.
 -- REFERENCE 1.1, 1.2 and 7.2. Assumes nothing.
 use mathlib.Core.Path.{_≡_}
-use mathlib.Core.Bool.{Bool, true, false}
+use mathlib.Core.Bool.{Bool, true, false, _&&_, not}
 use mathlib.Core.List.{List, [], _∷_, _++_}
+use lib.Dec.{eqb}
 use Prim.Native.Nat.{ℕ, compare, Ordering, Ordering·lt, Ordering·eq, Ordering·gt}
 
 -- s p o: a triple of ids, subject, predicate, object
@@ -39,6 +40,11 @@ if false f g = g tt
 abbrev pub concat-map : {A B : Type 0} → List A → (A → List B) → List B
 concat-map [] f = []
 concat-map (x ∷ xs) f = f x ++ concat-map xs f
+
+-- every element passes the test
+abbrev pub all : {A : Type 0} → (A → Bool) → List A → Bool
+all f [] = true
+all f (x ∷ xs) = if (f x) (λ _. all f xs) (λ _. false)
 
 -- ordered by s, then p, then o: of two rows of numbers the first place where they differ decides. REFERENCE 1.2
 abbrev pub then : Ordering → (Unit {0} → Ordering) → Ordering
@@ -85,3 +91,10 @@ insert key x (y ∷ ys) = place (lex (key x) (key y)) x y ys (λ _. insert key x
 unfoldable pub insert-all : {A : Type 0} → (A → List ℕ) → List A → List A → List A
 insert-all key [] us = us
 insert-all key (x ∷ xs) us = insert-all key xs (insert key x us)
+
+-- THE ANSWER: the closure's triples without an id 0. REFERENCE 6.4
+abbrev pub no-zero : Triple → Bool
+no-zero t = not (eqb (t .s) 0) && not (eqb (t .p) 0) && not (eqb (t .o) 0)
+
+unfoldable pub without-zero : List Triple → List Triple
+without-zero ts = concat-map ts (λ t. if (no-zero t) (λ _. t ∷ []) (λ _. []))

@@ -3,6 +3,39 @@
 ghost use mathlib.Core.Path.{_≡_};
 ghost use Rattle.common.specs.Vocabulary.{vocabulary};
 
+// How many numbers a triple of a load has, a row of a store, a finding.
+pub const LOAD_WIDTH: usize = 3;
+
+pub const STORE_WIDTH: usize = 3;
+
+pub const FINDING_WIDTH: usize = 5;
+
+// The most triples of a load, of a store, and the most findings.
+pub const LOAD_LIMIT: usize = 16384;
+
+pub const STORE_LIMIT: usize = 65535;
+
+pub const FINDING_LIMIT: usize = 65535;
+
+// The chain heads of a table, the numbers of an entry, the most entries, and the most numbers of a table.
+pub const HEADS_WIDTH: usize = 64;
+
+pub const ENTRY_WIDTH: usize = 4;
+
+pub const ENTRY_LIMIT: usize = 65535;
+
+pub const TABLE_LIMIT: usize = HEADS_WIDTH + ENTRY_WIDTH * ENTRY_LIMIT;
+
+// The most bytes of an arena, and of a term.
+pub const ARENA_LIMIT: usize = 1048576;
+
+pub const TERM_LIMIT: usize = 4096;
+
+// How many terms a run puts, and the numbers that the list work buffer has for each term.
+pub const RUN_TERMS: usize = 3;
+
+pub const WORK_WIDTH: usize = 2;
+
 // A term's id. A place in the list work buffer is another type, and so is a count.
 pub struct Id(pub u32);
 

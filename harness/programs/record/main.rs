@@ -1,5 +1,5 @@
 //! record FOLDER: writes calls with what each must give, as FOLDER/stdin; what program replay has to print of them, as FOLDER/stdout;
-//! and what the cases after the tables of OWL 2 Profiles show, as FOLDER/cases.md. crates/replay/README.md has the format.
+//! and what the cases after the tables of OWL 2 Profiles show, as FOLDER/cases.md. crates/trial_replay/README.md has the format.
 
 mod batches;
 mod calls;

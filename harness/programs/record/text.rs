@@ -1,4 +1,4 @@
-//! The text of calls: lines that write two memories of numbers, and calls on the first. crates/replay/README.md has the format.
+//! The text of calls: lines that write two memories of numbers, and calls on the first. crates/trial_replay/README.md has the format.
 //!
 //! The writer keeps a copy of the memory and makes each call on it with the reference model, so it writes only the numbers that
 //! change. A refused call has no such lines: then everything has to be as it was.

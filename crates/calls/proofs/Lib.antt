@@ -1,4 +1,0 @@
-pub mod Reckoning
-pub mod Growth
-pub mod Unbroken
-pub mod Demand3

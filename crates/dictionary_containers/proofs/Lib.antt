@@ -1,0 +1,2 @@
+pub mod ContainerTerms
+pub mod Cases

@@ -1,0 +1,2 @@
+pub mod Containers
+pub mod Cases

@@ -1,0 +1,125 @@
+// Put and lookup where the contents are known to be a dictionary's: for those that test them once and not at each call.
+use crate::values::Located;
+use crate::values::PutNext;
+use common::Id;
+use dictionary_entries::append::append;
+use dictionary_entries::entry::find;
+use dictionary_layout::Counters;
+use dictionary_layout::hash::digest;
+ghost use mathlib.Core.Path.{_≡_};
+ghost use Prim.Native.Nat.{_≤_};
+ghost use lib.Dec.{T};
+ghost use denote.Ref.{ptr};
+ghost use lib.ListN.{length};
+ghost use Rattle.dictionary_layout.specs.Terms.{term};
+ghost use Rattle.dictionary_layout.specs.Dictionary.{valid, lookup-answer};
+ghost use Rattle.dictionary_layout.specs.Calls.{put-gives};
+ghost use Rattle.dictionary_layout.specs.Values.{contents};
+ghost use Rattle.dictionary_index.specs.Values.{put-left, located, further, Locates, Looks-up};
+
+// A refusal leaves the counters as they are.
+pub fn refused(number: u32, counters: Counters) -> PutNext
+    ensures { λ r. ⌜ r ≡ record { number = number; id = record { 0 = 0 }; counters = counters } ⌝ }
+{
+    PutNext {
+        number,
+        id: Id(0),
+        counters,
+    }
+}
+
+// Put without the test for a broken dictionary; it leaves a dictionary that is not broken.
+pub fn put_valid(
+    table: &mut [u32],
+    arena: &mut [u8],
+    counters: Counters,
+    kind: u32,
+    bytes: &[u8],
+) -> PutNext
+    requires { ⌜ T (valid (contents (now table) (now arena) counters)) ⌝ }
+    ensures { λ r. ⌜ put-left r (now (table .exit)) (now (arena .exit)) ≡ put-gives (contents (now (table .entry)) (now (arena .entry)) counters) (term kind (now (bytes .entry))) ⌝ }
+{
+    if kind < 1 {
+        return refused(10, counters);
+    }
+    if 3 < kind {
+        return refused(10, counters);
+    }
+    if 4096 < bytes.len() {
+        return refused(11, counters);
+    }
+    let chain = digest(kind, bytes).chain;
+    let id = find(table, arena, counters, kind, bytes, chain);
+    if id < counters.terms {
+        return PutNext {
+            number: 0,
+            id: Id(id),
+            counters,
+        };
+    }
+    if table.len() < 64 + 4 * (counters.terms as usize + 1) {
+        return refused(7, counters);
+    }
+    if arena.len() < counters.used as usize + bytes.len() {
+        return refused(7, counters);
+    }
+    let next = append(table, arena, counters, kind, bytes, chain);
+    PutNext {
+        number: 0,
+        id: Id(counters.terms),
+        counters: next,
+    }
+}
+// Where the term of an id lies.
+pub fn locate(table: &[u32], arena: &[u8], counters: Counters, id: Id) -> Located
+    requires { ⌜ T (valid (contents (now table) (now arena) counters)) ⌝ }
+    ensures { λ r. ⌜ Locates r (contents (now (table .entry)) (now (arena .entry)) counters) (id .0) ⌝ }
+{
+    if counters.terms <= id.0 {
+        return Located {
+            number: 12,
+            kind: 0,
+            start: 0,
+            end: 0,
+        };
+    }
+    let at = 64 + 4 * (id.0 as usize);
+    let start = table[at] as usize;
+    let end = start + table[at + 1] as usize;
+    Located {
+        number: 0,
+        kind: table[at + 2],
+        start,
+        end,
+    }
+}
+
+// The part of the arena that was located, with the number and the kind.
+pub fn part<'a>(arena: &'a [u8], place: Located, number: &mut u32, kind: &mut u32) -> &'a [u8]
+    requires { ⌜ (place .start ≤ place .end) × (place .end ≤ length (now arena)) ⌝ }
+    ensures { λ r. ⌜ lookup-answer (now (number .exit)) (now (kind .exit)) (now r) ≡ located place (now (arena .entry)) ⌝ }
+    ensures { λ r. ⌜ ptr r ≡ further (ptr (arena .entry)) (place .start) ⌝ }
+{
+    *number = place.number;
+    *kind = place.kind;
+    let start = place.start;
+    let end = place.end;
+    &arena[start..end]
+}
+
+// Lookup without the test for a broken dictionary.
+pub fn lookup_valid<'a>(
+    table: &[u32],
+    arena: &'a [u8],
+    counters: Counters,
+    id: Id,
+    number: &mut u32,
+    kind: &mut u32,
+) -> &'a [u8]
+    requires { ⌜ T (valid (contents (now table) (now arena) counters)) ⌝ }
+    ensures { λ r. ⌜ Looks-up (lookup-answer (now (number .exit)) (now (kind .exit)) (now r)) (ptr (arena .entry)) (ptr r)
+        (contents (now (table .entry)) (now (arena .entry)) counters) (id .0) ⌝ }
+{
+    let place = locate(table, arena, counters, id);
+    part(arena, place, number, kind)
+}

@@ -1,0 +1,19 @@
+-- The two numbers that are computed from a term's kind and bytes in one pass: its chain, REFERENCE 2.3, and its bucket in the hash by
+-- which the test for a broken dictionary finds equal terms. The bucket shows in no result: any function of the term below 65,536 would
+-- serve. Assumes nothing.
+use mathlib.Core.List.{List, [], _∷_}
+use Prim.Native.Nat.{ℕ, _+_, _*_, _/_, _%_}
+use Rattle.dictionary_layout.specs.declared.values.Digest.{Digest}
+use Rattle.dictionary_layout.specs.Terms.{Term}
+use Rattle.dictionary_layout.specs.Layout.{chain}
+
+-- the hash of bytes that follow what has the hash h
+unfoldable pub hash-from : ℕ → List ℕ → ℕ
+hash-from h [] = h
+hash-from h (b ∷ bs) = hash-from ((h * 2654435761 + b) % 4294967296) bs
+
+abbrev pub bucket : Term → ℕ
+bucket t = hash-from (t .kind) (t .bytes) / 65536
+
+abbrev pub digest-of : Term → Digest
+digest-of t = record { chain = chain t; bucket = bucket t }

@@ -1,0 +1,95 @@
+-- Entries scanned one after the other: for the contracts of the functions that the test for a broken dictionary is made of. Assumes
+-- nothing.
+use mathlib.Core.Path.{_≡_}
+use mathlib.Core.Bool.{Bool, true, false}
+use mathlib.Core.List.{List}
+use Prim.Native.Nat.{ℕ, _+_, _*_, _-_, _≤_, _<_}
+use lib.Dec.{T}
+use lib.ListN.{length, getD, take, drop, set}
+use Rattle.dictionary_layout.specs.Terms.{Term, start-terms}
+use Rattle.dictionary_layout.specs.Layout.{dict, size, all-bytes, all-heads, all-entries, span, layout, read}
+use Rattle.dictionary_layout.specs.Dictionary.{start-refusal, holdable, valid}
+use Rattle.dictionary_entries.specs.Entries.{entry-term, Entry-fits}
+use Rattle.dictionary_layout.specs.Digest.{bucket}
+
+-- the terms that the first n entries name
+abbrev pub named : List ℕ → List ℕ → ℕ → List Term
+named table arena n = read n (drop 64 table) arena
+
+-- the first k entries are as puts leave them, their bytes are the first `at` of the arena, and 64 numbers are the chains' heads so far
+pub record Scanned (table arena heads : List ℕ) (k at : ℕ) : Type 0 where
+  pub holds : T (holdable (length table) (length arena) (named table arena k))
+  pub entries : take (4 * k) (drop 64 table) ≡ all-entries (named table arena k)
+  pub bytes : take at arena ≡ all-bytes (named table arena k)
+  pub used : at ≡ size (named table arena k)
+  pub chains : take 64 heads ≡ span 64 0 (all-heads (named table arena k))
+
+-- v is one more than the greatest j below m whose key is x, and 0 where there is none
+pub record Last (key : ℕ → ℕ) (x m v : ℕ) : Type 0 where
+  pub below : v ≤ m
+  pub here : 0 < v → key (v - 1) ≡ x
+  pub none : (j : ℕ) → v ≤ j → j < m → key j ≡ x → ⊥
+
+abbrev pub bucket-of : List ℕ → List ℕ → ℕ → ℕ
+bucket-of table arena j = bucket (entry-term table arena j)
+
+-- the first k entries by their buckets: a head for each bucket, and behind the heads a link for each entry
+pub record Hashed (table arena hash : List ℕ) (k : ℕ) : Type 0 where
+  pub wide : length hash ≡ 131072
+  pub heads : (x : ℕ) → x < 65536 → Last (bucket-of table arena) x k (getD hash x 0)
+  pub links : (j : ℕ) → j < k → Last (bucket-of table arena) (bucket-of table arena j) j (getD hash (65536 + j) 0)
+
+abbrev pub linked : List ℕ → ℕ → ℕ → List ℕ
+linked hash x k = set (set hash (65536 + k) (getD hash x 0)) x (k + 1)
+
+-- whether one of the first k entries names the term
+pub record Seen (table arena : List ℕ) (k : ℕ) (t : Term) (r : Bool) : Type 0 where
+  pub yes : r ≡ true → (j : ℕ) × (j < k) × (entry-term table arena j ≡ t)
+  pub no : r ≡ false → (j : ℕ) → j < k → entry-term table arena j ≡ t → ⊥
+
+-- what the search for it needs
+pub record Seekable (table arena hash : List ℕ) (k : ℕ) (t : Term) (x : ℕ) : Type 0 where
+  pub hashed : Hashed table arena hash k
+  pub fits : (j : ℕ) → j < k → Entry-fits table arena j
+  pub few : k ≤ 65535
+  pub key : x ≡ bucket t
+  pub below : x < 65536
+
+-- the first k entries were scanned and hashed, and there is one more
+pub record Scanning (table arena heads hash : List ℕ) (k at : ℕ) : Type 0 where
+  pub scanned : Scanned table arena heads k at
+  pub hashed : Hashed table arena hash k
+  pub entry : 64 + 4 * (k + 1) ≤ length table
+
+-- no dictionary has this table and arena, and n terms
+abbrev pub Broken : List ℕ → List ℕ → ℕ → Type 0
+Broken table arena n = (used : ℕ) → T (valid (dict table arena n used)) → ⊥
+
+-- what one entry more comes to
+pub record Checked-entry (table arena heads hash : List ℕ) (k : ℕ) (ok : Bool) (end : ℕ) : Type 0 where
+  pub yes : ok ≡ true → Scanned table arena heads (k + 1) end × Hashed table arena hash (k + 1)
+  pub no : ok ≡ false → (n : ℕ) → k < n → Broken table arena n
+
+-- what all entries come to
+pub record Checked-all (table arena heads : List ℕ) (n : ℕ) (ok : Bool) (end : ℕ) : Type 0 where
+  pub yes : ok ≡ true → Scanned table arena heads n end
+  pub no : ok ≡ false → Broken table arena n
+
+-- the start's entries were scanned and hashed
+pub record Scannable (table arena heads hash : List ℕ) (n : ℕ) : Type 0 where
+  pub scanned : Scanned table arena heads 31 1325
+  pub hashed : Hashed table arena hash 31
+  pub some : 31 ≤ n
+  pub entries : 64 + 4 * n ≤ length table
+  pub room : 64 ≤ length heads
+
+-- a table and an arena in which a start is accepted, and a fresh dictionary without room for more
+pub record Fresh-start (table arena fresh iris : List ℕ) : Type 0 where
+  pub accepted : start-refusal (length table) (length arena) ≡ 0
+  pub entries : fresh ≡ layout 188 1325 start-terms .table
+  pub bytes : iris ≡ layout 188 1325 start-terms .arena
+
+-- whether table and arena begin as a fresh dictionary does
+pub record Begins (table arena fresh : List ℕ) (r : Bool) : Type 0 where
+  pub yes : r ≡ true → Scanned table arena fresh 31 1325
+  pub no : r ≡ false → (n : ℕ) → Broken table arena n

@@ -1,0 +1,78 @@
+-- What calls give over contents is what is computed from the terms, call by call and over a whole list. Assumes nothing.
+use mathlib.Core.Path.{_≡_, refl, _∙_, ap}
+use mathlib.Core.List.{List, [], _∷_}
+use Prim.Native.Nat.{ℕ, zero, suc}
+use lib.ListN.{length}
+use Rattle.driver_load.specs.Lent.{Lent}
+use Rattle.driver_run.specs.Run.{unchanged, run-all-put, run-passed, abstract-run, Run-result, run-laid, run-gives}
+use Rattle.driver_refusals.specs.RunRefusals.{first-refusal, run-refusals}
+use Rattle.dictionary_layout.specs.Terms.{Term, start-terms, run-terms}
+use Rattle.dictionary_layout.specs.Layout.{Dict, layout}
+use Rattle.dictionary_layout.specs.Dictionary.{All-put, full, all-put, put-all, Lookup-answer, lookup-answer, abstract-lookup}
+use Rattle.dictionary_layout.specs.Calls.{start-gives, Put-result, put-result, put-laid, put-gives, lookup-gives}
+use Rattle.dictionary_layout.proofs.Holding.{Holds, holds-put}
+use Rattle.dictionary_layout.proofs.Reachable.{on-layout, start-holds, start-leaves}
+use Rattle.driver_run.proofs.PuttingAll.{put-all-holds}
+use Rattle.driver_calls.specs.Calls.{Call, put, lookup, run-on, put-gave, lookup-gave, run-gave, Left, call-gives}
+use Rattle.driver_calls.specs.Calls.{Abstract-result, abstract-call}
+use Rattle.driver_calls.specs.Calls.{event, List-left, calls-give, events-of, terms-after}
+use Rattle.driver_calls.specs.Demand3.{abstract-list}
+
+-- one call
+abbrev pub laid : ℕ → ℕ → Abstract-result → Left
+laid tl al r = record { out = r .out; contents = layout tl al (r .held) }
+
+pub call-abstract : (tl al : ℕ) (ts : List Term) (c : Call) → Holds tl al ts
+    → call-gives (layout tl al ts) c ≡ laid tl al (abstract-call tl al ts c)
+unfolding call-gives abstract-call put-gives lookup-gives run-gives
+call-abstract tl al ts (put t) h =
+    ap (λ (a : Put-result). record { out = put-gave (a .number) (a .id); contents = a .contents })
+    (on-layout tl al ts (put-laid t) (λ _. put-result 1 0 (layout tl al ts)) h)
+call-abstract tl al ts (lookup i) h =
+    ap (λ (a : Lookup-answer). record { out = lookup-gave a; contents = layout tl al ts })
+    (on-layout tl al ts (λ tl al ts. abstract-lookup ts i) (λ _. lookup-answer 1 0 []) h)
+call-abstract tl al ts (run-on b) h =
+    ap (λ (a : Run-result). record { out = run-gave (a .answer); contents = a .contents })
+    (on-layout tl al ts (run-laid b) (λ _. record { answer = unchanged 1 b; contents = layout tl al ts }) h)
+
+-- the terms held after a call can be held
+run-holds : (tl al : ℕ) (ts : List Term) (b : Lent) → Holds tl al ts → Holds tl al (abstract-run tl al ts b .held)
+unfolding abstract-run
+run-holds tl al ts b h = go (first-refusal (run-refusals (length ts) b))
+  where
+    three : (w : All-put) → put-all tl al ts run-terms ≡ w → Holds tl al (run-all-put b ts w .held)
+    three full e = h
+    three (all-put us) e = put-all-holds tl al ts run-terms us h e
+
+    go : (n : ℕ) → Holds tl al (run-passed n tl al ts b .held)
+    go zero = three (put-all tl al ts run-terms) refl
+    go (suc n) = h
+
+pub abstract-holds : (tl al : ℕ) (ts : List Term) (c : Call) → Holds tl al ts → Holds tl al (abstract-call tl al ts c .held)
+unfolding abstract-call
+abstract-holds tl al ts (put t) h = holds-put tl al ts t h
+abstract-holds tl al ts (lookup i) h = h
+abstract-holds tl al ts (run-on b) h = run-holds tl al ts b h
+
+-- THE LIST: what each call gives is as computed, and the contents are those of the terms computed
+abbrev pub abstract-from : ℕ → ℕ → List Term → List Call → List-left
+abstract-from tl al ts cs = record { events = events-of tl al ts cs; contents = layout tl al (terms-after tl al ts cs) }
+
+pub calls-abstract : (tl al : ℕ) (ts : List Term) (cs : List Call) → Holds tl al ts
+    → calls-give (layout tl al ts) cs ≡ abstract-from tl al ts cs
+unfolding calls-give events-of terms-after
+calls-abstract tl al ts [] h = refl
+calls-abstract tl al ts (c ∷ cs) h =
+    ap (λ (l : Left). more l (calls-give (l .contents) cs)) (call-abstract tl al ts c h)
+    ∙ ap (λ (r : List-left). more (laid tl al (abstract-call tl al ts c)) r)
+    (calls-abstract tl al (abstract-call tl al ts c .held) cs (abstract-holds tl al ts c h))
+  where
+    more : Left → List-left → List-left
+    more l r = record { events = event c (l .out) ∷ r .events; contents = r .contents }
+
+-- from what an accepted start leaves
+pub start-abstract : (table arena : List ℕ) (cs : List Call) → start-gives table arena .number ≡ 0
+    → calls-give (start-gives table arena .contents) cs ≡ abstract-list (length table) (length arena) cs
+start-abstract table arena cs e =
+    ap (λ (x : Dict). calls-give x cs) (start-leaves table arena e)
+    ∙ calls-abstract (length table) (length arena) start-terms cs (start-holds table arena e)

@@ -1,0 +1,4 @@
+pub mod Abstraction
+pub mod Growth
+pub mod Unbroken
+pub mod Demand3

@@ -1,0 +1,3 @@
+pub mod PuttingAll
+pub mod Running
+pub mod Accepting

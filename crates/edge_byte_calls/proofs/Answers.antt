@@ -1,0 +1,180 @@
+-- The numbers that an accepted run leaves in its buffers are below 2 ^ 32, so that its answer is read back from the bytes, and can be
+-- loaded again. Assumes nothing.
+use mathlib.Core.Path.{_≡_, refl, sym, _∙_, ap, subst}
+use mathlib.Core.List.{List, [], _∷_, _++_}
+use Prim.Native.Nat.{ℕ, suc, _*_, _-_, _/_, _<_}
+use native.Mathlib.Omega.{arith}
+use lib.Dec.{ltb, ltb→lt}
+use lib.ListN.{length, take, replicate}
+use lib.Seq.{take-at}
+use Rattle.common.specs.Triples.{Triple, triple, Finding, In, here, there}
+use Rattle.meaning.specs.Rules.{Graph, Found, cax-dw, prp-irp, prp-asyp, prp-pdw, cls-nothing2}
+use Rattle.meaning.specs.Containers.{Containers}
+use Rattle.meaning.specs.Table.{graph-of}
+use Rattle.meaning.specs.Closure.{Sub, closure}
+use Rattle.common.specs.Rows.{flat, flat-findings, triples, filled}
+use Rattle.meaning.proofs.Checks.{findings→}
+use Rattle.meaning.proofs.LoadClosure.{Closure, computed→}
+use Rattle.meaning.proofs.Batch.{in-without-zero→}
+use Rattle.meaning.proofs.Ids.{Each, closure-below}
+use Rattle.common.proofs.Rows.{triples-flat, length-flat}
+use Rattle.meaning.proofs.Counts.{found-check}
+use Rattle.meaning.proofs.Run.{Accepted, accepted→}
+use Rattle.dictionary_layout.specs.Terms.{Term, run-terms, property-term, membership-term, member-term}
+use Rattle.dictionary_layout.specs.Dictionary.{place-of, id-of}
+use Rattle.dictionary_layout.proofs.Holding.{Holds}
+use Rattle.driver_load.specs.Lent.{Lent, Run-answer, containers}
+use Rattle.driver_run.specs.Run.{Abstract-run-result, abstract-run}
+use Rattle.driver_run.proofs.Accepting.{AcceptedRun, run-accepted}
+use Rattle.driver_run.proofs.PuttingAll.{grown-length, put-all-grows, put-all-holds, put-all-below}
+use Rattle.driver_refusals.proofs.Refusing.{all-in}
+use Rattle.driver_calls.specs.Demand3.{answer}
+use Rattle.driver_calls.proofs.Demand3.{answer-of-accepted}
+use Rattle.edge_bytes.specs.Bytes.{bytes-of, Fit-bytes, read-buffer, left-bytes}
+use Rattle.edge_bytes.proofs.Coding.{changes-0, left-written}
+use Rattle.edge_bytes.proofs.RoundTrip.{read-bytes, bytes-take, bytes-append, fit-append, fit-zeros}
+use Rattle.edge_c.specs.Calls.{answer-in-bytes}
+use Rattle.edge_byte_calls.specs.Demand3.{read-answer, Next-load}
+use Rattle.edge_byte_calls.proofs.Fitting.{some, few}
+
+-- rows of triples and of findings whose ids are below 2 ^ 32
+abbrev Id : ℕ → Type 0
+Id i = i < 4294967296
+
+fit-flat : (ts : List Triple) → ((t : Triple) → In t ts → Each Id (t .s) (t .p) (t .o)) → Fit-bytes (flat ts)
+fit-flat [] f = tt
+fit-flat (t ∷ ts) f = let (x, y, z) = f t (here refl) in (x, (y, (z, fit-flat ts (λ u i. f u (there i)))))
+
+abbrev Ids : Finding → Type 0
+Ids x = Id (x .check) × Id (x .a) × Id (x .b) × Id (x .c) × Id (x .d)
+
+fit-flat-findings : (xs : List Finding) → ((x : Finding) → In x xs → Ids x) → Fit-bytes (flat-findings xs)
+fit-flat-findings [] f = tt
+fit-flat-findings (x ∷ xs) f = let (n, a, b, c, d) = f x (here refl) in (n, (a, (b, (c, (d, fit-flat-findings xs (λ y i. f y (there i)))))))
+
+fit-filled : (buffer row : List ℕ) → Fit-bytes row → Fit-bytes (filled buffer row)
+fit-filled buffer row f = fit-append row (replicate (length buffer - length row) 0) f (fit-zeros (length buffer - length row))
+
+-- the ids of a finding are 0 or those of the set
+found-each : (P : ℕ → Type 0) (S : Graph) → P 0 → Sub S (Each P) → {n a b c d : ℕ} → Found S n a b c d → P a × P b × P c × P d
+found-each P S z f (cax-dw h j k n) = (f _ _ _ h .0, f _ _ _ h .2, f _ _ _ j .2, z)
+found-each P S z f (prp-irp h j n) = (f _ _ _ h .0, f _ _ _ j .0, z, z)
+found-each P S z f (prp-asyp h j k l m n) = (f _ _ _ h .0, f _ _ _ j .0, f _ _ _ j .2, z)
+found-each P S z f (prp-pdw h j k l m n o) = (f _ _ _ j .0, f _ _ _ j .2, f _ _ _ h .0, f _ _ _ h .2)
+found-each P S z f (cls-nothing2 h n) = (f _ _ _ h .0, z, z, z)
+
+-- AN ACCEPTED RUN over numbers
+module _ (tl al : ℕ) (ts : List Term) (h : Holds tl al ts) (b : Lent) (l : Abstract-run-result) (a : AcceptedRun tl al ts b l) where
+  abbrev us : List Term
+  us = a .terms
+
+  abbrev c : Containers
+  c = containers us
+
+  abbrev cap : ℕ
+  cap = length (b .store) / 3
+
+  abbrev rows : List Triple
+  rows = closure c (suc cap) (triples (b .load))
+
+  accepted-run : Accepted c cap (length (b .findings) / 5) (triples (b .load)) (a .answer) (a .row) (a .n) (a .k)
+  accepted-run = accepted→ c cap (length (b .findings) / 5) (triples (b .load)) (a .answer) (a .row) (a .n) (a .k) (a .runs)
+
+  held : Holds tl al us
+  held = put-all-holds tl al ts run-terms us h (a .puts-all)
+
+  load-known : (x y z : ℕ) → In (triple x y z) (triples (b .load)) → Each (λ i. i < length us) x y z
+  load-known x y z i =
+      let (p, q, r) = all-in (λ i. ltb i (length ts)) (b .load) (a .known) (triple x y z) i in
+      let n = grown-length ts us (put-all-grows tl al ts run-terms us (a .puts-all)) in
+      (omega (arith, ltb→lt x (length ts) p), omega (arith, ltb→lt y (length ts) q), omega (arith, ltb→lt z (length ts) r))
+
+  put-known : (t : Term) → In t run-terms → id-of (place-of t us) < length us
+  put-known = put-all-below tl al ts run-terms us (a .puts-all)
+
+  closure-known : Sub (Closure c (triples (b .load))) (Each (λ i. i < length us))
+  unfolding containers run-terms
+  closure-known =
+      closure-below c (triples (b .load)) (length us) (some tl al us held) load-known
+      (put-known property-term (here refl))
+      (put-known membership-term (there (here refl)))
+      (put-known member-term (there (there (here refl))))
+
+  ids : Sub (graph-of rows) (Each Id)
+  ids x y z i =
+      let (p, q, r) = closure-known x y z (computed→ c (suc cap) (triples (b .load)) x y z i) in
+      let n = few tl al us held in
+      (omega arith, omega arith, omega arith)
+
+  fit-answer : Fit-bytes (flat (a .answer))
+  fit-answer = fit-flat (a .answer) (λ t i. ids (t .s) (t .p) (t .o) (in-without-zero→ rows t (subst (In t) (accepted-run .answer) i) .0))
+
+  fit-store : Fit-bytes (l .answer .store)
+  fit-store = subst (λ (o : Run-answer). Fit-bytes (o .store)) (sym (a .gives)) (fit-filled (b .store) (flat (a .answer)) fit-answer)
+
+  fit-findings : Fit-bytes (l .answer .findings)
+  fit-findings =
+      subst (λ (o : Run-answer). Fit-bytes (o .findings)) (sym (a .gives))
+      (fit-filled (b .findings) (flat-findings (a .row)) (fit-flat-findings (a .row) known))
+    where
+      known : (x : Finding) → In x (a .row) → Ids x
+      known x i =
+          let f = findings→ rows (subst (In x) (accepted-run .found) i) in
+          let (p, q, r, s) = found-each Id (graph-of rows) (omega arith) ids f in
+          let n = found-check f in
+          (omega arith, p, q, r, s)
+
+  fit-work : Fit-bytes (l .answer .work)
+  fit-work = subst (λ (o : Run-answer). Fit-bytes (o .work)) (sym (a .gives)) (fit-zeros (length (b .work)))
+
+  -- the triples that it left stand first in the store, so their bytes, and then those of B, are a load of its answer with B
+  left-first : take (3 * l .answer .count) (l .answer .store) ≡ flat (a .answer)
+  left-first =
+      let N = flat (a .answer) in
+      let k : length N ≡ 3 * a .n = omega (arith, length-flat (a .answer), accepted-run .count) in
+      ap (λ (o : Run-answer). take (3 * o .count) (o .store)) (a .gives)
+      ∙ take-at N (replicate (length (b .store) - length N) 0) (3 * a .n) k
+
+  answered : answer (l .answer) ≡ a .answer
+  answered =
+      ap answer (a .gives)
+      ∙ answer-of-accepted c b cap (length (b .findings) / 5) (triples (b .load)) (a .answer) (a .row) (a .n) (a .k) (a .runs)
+
+  load-again : (B : List Triple) → Fit-bytes (flat B)
+      → triples (read-buffer (take (12 * l .answer .count) (bytes-of (l .answer .store)) ++ bytes-of (flat B))) ≡ answer (l .answer) ++ B
+  load-again B f =
+      let o = l .answer in
+      let N = flat (a .answer) in
+      let k : 12 * o .count ≡ 4 * (3 * o .count) = omega arith in
+      let p = ap (λ (j : ℕ). take j (bytes-of (o .store))) k ∙ (bytes-take (3 * o .count) (o .store) ∙ ap bytes-of left-first) in
+      ap (λ (x : List ℕ). triples (read-buffer (x ++ bytes-of (flat B)))) p
+      ∙ (ap (λ (x : List ℕ). triples (read-buffer x)) (sym (bytes-append N (flat B)))
+      ∙ (ap triples (read-bytes (N ++ flat B) (fit-append N (flat B) fit-answer f))
+      ∙ (triples-flat (a .answer) B ∙ ap (λ (x : List Triple). x ++ B) (sym answered))))
+
+-- a buffer that was written is read back
+read-left : (n : ℕ) (b l : List ℕ) → n ≡ 0 → Fit-bytes l → read-buffer (left-bytes n b l) ≡ l
+read-left n b l e f = sym (ap read-buffer (left-written n b l (changes-0 n e) refl)) ∙ read-bytes l f
+
+-- THE ANSWER OF AN ACCEPTED RUN is read back from the bytes that it left: b are its buffers of bytes, m what it read in them
+pub answer-read : (tl al : ℕ) (ts : List Term) → Holds tl al ts → (b m : Lent) → abstract-run tl al ts m .answer .number ≡ 0
+    → read-answer (answer-in-bytes b (abstract-run tl al ts m .answer)) ≡ abstract-run tl al ts m .answer
+answer-read tl al ts h b m e =
+    let r = abstract-run tl al ts m in
+    let o = r .answer in
+    let a = run-accepted tl al ts m e in
+    let s = read-left (o .number) (b .store) (o .store) e (fit-store tl al ts h m r a) in
+    let f = read-left (o .number) (b .findings) (o .findings) e (fit-findings tl al ts h m r a) in
+    let w = read-left (o .number) (b .work) (o .work) e (fit-work tl al ts h m r a) in
+    λ i. record { number = o .number; count = o .count; counts = o .counts; store = s i; findings = f i; work = w i }
+
+-- and can be loaded again
+pub answer-loads : (tl al : ℕ) (ts : List Term) → Holds tl al ts → (b m : Lent) → abstract-run tl al ts m .answer .number ≡ 0
+    → Next-load (answer-in-bytes b (abstract-run tl al ts m .answer))
+answer-loads tl al ts h b m e B f =
+    let r = abstract-run tl al ts m in
+    let o = r .answer in
+    let w = left-written (o .number) (b .store) (o .store) (changes-0 (o .number) e) refl in
+    ap (λ (x : List ℕ). triples (read-buffer (take (12 * o .count) x ++ bytes-of (flat B)))) (sym w)
+    ∙ (load-again tl al ts h m r (run-accepted tl al ts m e) B f
+    ∙ ap (λ (x : Run-answer). answer x ++ B) (sym (answer-read tl al ts h b m e)))

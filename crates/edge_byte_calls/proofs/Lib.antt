@@ -1,0 +1,5 @@
+pub mod Fitting
+pub mod Answers
+pub mod Abstraction
+pub mod Reading
+pub mod Demand3

@@ -1,0 +1,62 @@
+-- What is written as bytes is read back: numbers below 2 ^ 32. Assumes nothing.
+use Prim.Native.Nat.{ℕ, zero, suc, _+_, _*_, _/_, _%_, _<_}
+use mathlib.Core.Path.{_≡_, refl, _∙_, ap, ap₂}
+use mathlib.Core.List.{List, [], _∷_, _++_}
+use native.Mathlib.Omega.{arith}
+use lib.ListN.{length, take, replicate}
+use lib.Seq.{take-nil}
+use borrow.Author.Tests.{eq-eqb}
+use Rattle.edge_bytes.specs.Bytes.{numbers-of, bytes-of, Fit-bytes, read-buffer}
+
+-- one number
+four-bytes : (n : ℕ) → n < 4294967296 → n % 256 + 256 * (n / 256 % 256) + 65536 * (n / 65536 % 256) + 16777216 * (n / 16777216 % 256) ≡ n
+four-bytes n h =
+    let a = n / 256 in
+    let b = n / 65536 in
+    let c = n / 16777216 in
+    let e₁ : n ≡ n % 256 + 256 * a = omega arith in
+    let e₂ : a ≡ a % 256 + 256 * b = omega arith in
+    let e₃ : b ≡ b % 256 + 256 * c = omega arith in
+    let e₄ : c % 256 ≡ c = omega arith in
+    omega arith
+
+-- A ROUND TRIP: the numbers of a list's bytes are the list
+pub numbers-bytes : (l : List ℕ) → Fit-bytes l → numbers-of (bytes-of l) ≡ l
+unfolding numbers-of bytes-of
+numbers-bytes [] f = refl
+numbers-bytes (n ∷ l) f = ap₂ (λ m r. m ∷ r) (four-bytes n (f .0)) (numbers-bytes l (f .1))
+
+pub length-bytes : (l : List ℕ) → length (bytes-of l) ≡ 4 * length l
+unfolding bytes-of
+length-bytes [] = refl
+length-bytes (n ∷ l) = omega (arith, length-bytes l)
+
+pub read-bytes : (l : List ℕ) → Fit-bytes l → read-buffer (bytes-of l) ≡ l
+unfolding read-buffer
+read-bytes l f =
+    let h : length (bytes-of l) % 4 ≡ 0 = omega (arith, length-bytes l) in
+    simp (eq-eqb (length (bytes-of l) % 4) 0 h) (numbers-bytes l f)
+
+-- the bytes of a list's first numbers, and of two lists one behind the other
+pub bytes-take : (k : ℕ) (l : List ℕ) → take (4 * k) (bytes-of l) ≡ bytes-of (take k l)
+unfolding bytes-of
+bytes-take zero l = refl
+bytes-take (suc k) [] = take-nil (4 * suc k)
+bytes-take (suc k) (n ∷ l) =
+    let q : 4 * suc k ≡ suc (suc (suc (suc (4 * k)))) = omega arith in
+    ap (λ (j : ℕ). take j (bytes-of (n ∷ l))) q
+    ∙ ap (λ (r : List ℕ). (n % 256) ∷ (n / 256 % 256) ∷ (n / 65536 % 256) ∷ (n / 16777216 % 256) ∷ r) (bytes-take k l)
+
+pub bytes-append : (l m : List ℕ) → bytes-of (l ++ m) ≡ bytes-of l ++ bytes-of m
+unfolding bytes-of
+bytes-append [] m = refl
+bytes-append (n ∷ l) m = ap (λ (r : List ℕ). (n % 256) ∷ (n / 256 % 256) ∷ (n / 65536 % 256) ∷ (n / 16777216 % 256) ∷ r) (bytes-append l m)
+
+-- lists of such numbers, one behind the other, and zeros
+pub fit-append : (l m : List ℕ) → Fit-bytes l → Fit-bytes m → Fit-bytes (l ++ m)
+fit-append [] m f g = g
+fit-append (n ∷ l) m f g = (f .0, fit-append l m (f .1) g)
+
+pub fit-zeros : (n : ℕ) → Fit-bytes (replicate n 0)
+fit-zeros zero = tt
+fit-zeros (suc n) = (omega arith, fit-zeros n)

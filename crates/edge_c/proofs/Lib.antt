@@ -1,0 +1,5 @@
+pub mod Forwarding
+pub mod Tables
+pub mod Refusals
+pub mod Runs
+pub mod Places

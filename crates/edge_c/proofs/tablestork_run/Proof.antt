@@ -1,0 +1,66 @@
+-- `edge_c::tablestork_run` meets its contract. Assumes nothing.
+use mathlib.Core.Path.{sym}
+use Prim.Native.Nat.{ℕ}
+use lib.ListN.{length-replicate}
+use Rattle.edge_c.proofs.Forwarding.{arrays}
+use Rattle.edge_c.proofs.tablestork_run.Statement.{statement}
+use Rattle.edge_c.proofs.tablestork_run.Tie as tie
+
+slice-aggregate-run-in : tie.Need-slice-aggregate-run-in
+slice-aggregate-run-in c = sym (length-replicate {A = ℕ} 262204 0)
+
+slice-aggregate-run-in-2 : tie.Need-slice-aggregate-run-in-2
+slice-aggregate-run-in-2 c = sym (length-replicate {A = ℕ} 49157 0)
+
+slice-aggregate-run-in-3 : tie.Need-slice-aggregate-run-in-3
+slice-aggregate-run-in-3 c = sym (length-replicate {A = ℕ} 196605 0)
+
+slice-aggregate-run-in-4 : tie.Need-slice-aggregate-run-in-4
+slice-aggregate-run-in-4 c = sym (length-replicate {A = ℕ} 327675 0)
+
+slice-aggregate-run-in-5 : tie.Need-slice-aggregate-run-in-5
+slice-aggregate-run-in-5 c = sym (length-replicate {A = ℕ} 131076 0)
+
+run-in-requires : tie.Need-run-in-requires
+run-in-requires c κs = arrays
+
+same-length : tie.Need-same-length
+same-length c =
+    let after-run-in = c .before .before .before .before .before .before .before .before .before .before .before .before .before
+    .before .before .before in
+    after-run-in .run-in .kept .1 .1 .1 .1 .1 .0
+
+same-length-2 : tie.Need-same-length-2
+same-length-2 c =
+    let after-run-in = c .before .before .before .before .before .before .before .before .before .before .before .before .before
+    .before .before .before in
+    after-run-in .run-in .kept .1 .1 .1 .1 .1 .1 .0
+
+same-length-3 : tie.Need-same-length-3
+same-length-3 c =
+    let after-run-in = c .before .before .before .before .before .before .before .before .before .before .before .before .before
+    .before .before .before in
+    after-run-in .run-in .kept .1 .1 .1 .1 .1 .1 .1 .1 .1 .1 .0
+
+same-length-4 : tie.Need-same-length-4
+same-length-4 c =
+    let after-run-in = c .before .before .before .before .before .before .before .before .before .before .before .before .before
+    .before .before .before in
+    after-run-in .run-in .kept .1 .1 .1 .1 .1 .1 .1 .1 .1 .1 .1 .0
+
+same-length-5 : tie.Need-same-length-5
+same-length-5 c =
+    let after-run-in = c .before .before .before .before .before .before .before .before .before .before .before .before .before
+    .before .before .before in
+    after-run-in .run-in .kept .1 .1 .1 .1 .1 .1 .1 .1 .1 .1 .1 .1 .0
+
+returns : tie.Need-returns
+returns c =
+    let after-run-in = c .before .before .before .before .before .before .before .before .before .before .before .before .before
+    .before .before .before in
+    after-run-in .run-in .ensures
+
+pub tablestork-run-spec : {M : Type 1} → statement M
+tablestork-run-spec =
+    tie.close (tie.spec slice-aggregate-run-in slice-aggregate-run-in-2 slice-aggregate-run-in-3 slice-aggregate-run-in-4
+    slice-aggregate-run-in-5 run-in-requires same-length same-length-2 same-length-3 same-length-4 same-length-5 returns)

@@ -1,0 +1,111 @@
+-- What the C entry points give, and what each leaves in the buffers of bytes that it is lent, for all inputs: what the calls on numbers
+-- give for the numbers of the buffers, written back as bytes. REFERENCE 9. Assumes nothing.
+use mathlib.Core.List.{List}
+use mathlib.Core.Path.{_≡_}
+use Prim.Native.Nat.{ℕ, _+_, _*_, _/_, _%_, _≤_}
+use lib.ListN.{length, take, drop}
+use Rattle.dictionary_layout.specs.Terms.{Term}
+use Rattle.dictionary_layout.specs.Layout.{Dict, dict}
+use Rattle.dictionary_layout.specs.Dictionary.{Lookup-answer}
+use Rattle.dictionary_entries.specs.Entries.{start-of}
+use Rattle.dictionary_layout.specs.Calls.{Start-result, start-result, start-gives, Put-result, put-result, put-gives, lookup-gives}
+use Rattle.dictionary_index.specs.Values.{begin-at}
+use Rattle.driver_load.specs.Lent.{Lent, lent, Run-answer}
+use Rattle.driver_run.specs.Run.{Run-result, run-gives}
+use Rattle.edge_bytes.specs.Bytes.{read-buffer, left-bytes, forwarded}
+
+-- a dictionary whose table is bytes, as numbers
+abbrev pub read-dict : Dict → Dict
+read-dict d = dict (read-buffer (d .table)) (d .arena) (d .terms) (d .used)
+
+-- the contents that a call left, over a table of bytes, where it answered n
+abbrev pub left-dict : ℕ → List ℕ → Dict → Dict
+left-dict n table d = dict (left-bytes n table (d .table)) (d .arena) (d .terms) (d .used)
+
+-- START, lent a table of bytes and an arena
+abbrev pub start-in-bytes : List ℕ → Start-result → Start-result
+start-in-bytes table r = start-result (r .number) (left-dict (r .number) table (r .contents))
+
+unfoldable pub start-bytes-give : List ℕ → List ℕ → Start-result
+start-bytes-give table arena = start-in-bytes table (start-gives (read-buffer table) arena)
+
+-- PUT, of a term in a dictionary whose table is bytes
+abbrev pub put-in-bytes : List ℕ → Put-result → Put-result
+put-in-bytes table r = put-result (r .number) (r .id) (left-dict (r .number) table (r .contents))
+
+unfoldable pub put-bytes-give : Dict → Term → Put-result
+put-bytes-give d t = put-in-bytes (d .table) (put-gives (read-dict d) t)
+
+-- LOOKUP: the number, the kind, and where the term's bytes lie: their place in the arena, as the table's entry names it, and their
+-- length, both 0 where the lookup is refused
+pub record Place-answer : Type 0 where
+  pub number : ℕ
+  pub kind : ℕ
+  pub begin : ℕ
+  pub len : ℕ
+
+abbrev pub place-answer : ℕ → ℕ → ℕ → ℕ → Place-answer
+place-answer n k i l = record { number = n; kind = k; begin = i; len = l }
+
+-- the answer r of a lookup of a term whose bytes begin at n
+abbrev pub place-at : ℕ → Lookup-answer → Place-answer
+place-at n r = place-answer (r .number) (r .kind) (begin-at n r) (length (r .part))
+
+-- in a dictionary of numbers
+unfoldable pub place-gives : Dict → ℕ → Place-answer
+place-gives d i = place-at (start-of (d .table) i) (lookup-gives d i)
+
+-- the answer p to a lookup of the id i, and that the term's bytes lie there
+pub record Places (d : Dict) (i : ℕ) (p : Place-answer) : Type 0 where
+  pub answers : p ≡ place-gives d i
+  pub lies : take (p .len) (drop (p .begin) (d .arena)) ≡ lookup-gives d i .part
+
+-- RUN: the load, the store, the findings and the list work buffer are bytes too
+abbrev pub read-lent : Lent → Lent
+read-lent b = lent (read-buffer (b .load)) (read-buffer (b .store)) (read-buffer (b .findings)) (read-buffer (b .work))
+
+-- the answer a of a run that was lent the buffers b of bytes
+abbrev pub answer-in-bytes : Lent → Run-answer → Run-answer
+answer-in-bytes b a = record {
+  number = a .number;
+  count = a .count;
+  counts = a .counts;
+  store = left-bytes (a .number) (b .store) (a .store);
+  findings = left-bytes (a .number) (b .findings) (a .findings);
+  work = left-bytes (a .number) (b .work) (a .work);
+}
+
+abbrev pub run-in-bytes : List ℕ → Lent → Run-result → Run-result
+run-in-bytes table b r = record { answer = answer-in-bytes b (r .answer); contents = left-dict (r .answer .number) table (r .contents) }
+
+unfoldable pub run-bytes-give : Dict → Lent → Run-result
+run-bytes-give d b = run-in-bytes (d .table) b (run-gives (read-dict d) (read-lent b))
+
+-- the answer of a run, with all that it is lent as it is left
+abbrev pub run-result : ℕ → ℕ → List ℕ → List ℕ → List ℕ → List ℕ → Dict → Run-result
+run-result n count counts s f w d =
+    record { answer = record { number = n; count = count; counts = counts; store = s; findings = f; work = w }; contents = d }
+
+-- the numbers that a run is passed for the table, the load, the store, the findings and the list work buffer. A load of over 16,384
+-- triples is passed on as another that is too long and leaves the same remainder by 3; of a long list work buffer no run needs more
+-- than two numbers for each of 65,535 terms and three more.
+pub record Forwarded-all (t l s f w : List ℕ) (table : List ℕ) (b : Lent) : Type 0 where
+  pub table-numbers : length t ≡ forwarded 262204 1 (length table)
+  pub load-numbers : length l ≡ forwarded 49152 (49155 + length (b .load) / 4 % 3) (length (b .load))
+  pub store-numbers : length s ≡ forwarded 196605 1 (length (b .store))
+  pub findings-numbers : length f ≡ forwarded 327675 1 (length (b .findings))
+  pub work-numbers : length w ≡ forwarded 131076 131076 (length (b .work))
+
+-- numbers that suffice for all buffers
+pub record Enough (t l s f w : List ℕ) : Type 0 where
+  pub table-room : 262204 ≤ length t
+  pub load-room : 49157 ≤ length l
+  pub store-room : 196605 ≤ length s
+  pub findings-room : 327675 ≤ length f
+  pub work-room : 131076 ≤ length w
+
+-- buffers of bytes that hold just the numbers which a run left for table, store and findings
+pub record Roomy (t s f table store findings : List ℕ) : Type 0 where
+  pub table-room : length table ≡ 4 * length t
+  pub store-room : length store ≡ 4 * length s
+  pub findings-room : length findings ≡ 4 * length f

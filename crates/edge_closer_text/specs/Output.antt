@@ -1,0 +1,45 @@
+-- What program closer prints: the answer and the findings of an accepted run, a refusal, or a bad line, REFERENCE 10.2 and 10.4; and the
+-- names that it puts, urn:t1 to urn:tN, REFERENCE 10.1. Assumes nothing.
+use mathlib.Core.List.{List, [], _∷_, _++_}
+use Prim.Native.Nat.{ℕ, zero, suc}
+use lib.ListN.{length, take, drop}
+use Rattle.common.specs.Text.{text}
+use Rattle.common.specs.Triples.{Triple, Finding, concat-map}
+use Rattle.edge_decimal.specs.Decimal.{digits}
+
+-- the byte after a number of a line: a space where others follow it, the line feed where none does
+abbrev pub ending : ℕ → ℕ
+ending zero = 10
+ending (suc others) = 32
+
+-- a line of numbers
+unfoldable pub line : List ℕ → List ℕ
+line [] = []
+line (n ∷ ns) = digits n ++ (ending (length ns) ∷ line ns)
+
+-- the first k rows of w numbers each, a line a row
+unfoldable pub table : ℕ → ℕ → List ℕ → List ℕ
+table w zero ns = []
+table w (suc k) ns = line (take w ns) ++ table w k (drop w ns)
+
+-- what an accepted run prints, of its triples and findings
+abbrev pub printed : List Triple → List Finding → List ℕ
+printed ts fs =
+    line (0 ∷ length ts ∷ length fs ∷ []) ++ (concat-map ts (λ t. line (t .s ∷ t .p ∷ t .o ∷ [])) ++ concat-map fs
+    (λ x. line (x .check ∷ x .a ∷ x .b ∷ x .c ∷ x .d ∷ [])))
+
+-- the same, of a store and findings that hold so many rows; proofs/Writing.antt shows that it is (answer-printed)
+abbrev pub answer : List ℕ → ℕ → List ℕ → ℕ → List ℕ
+answer store triples findings records = line (0 ∷ triples ∷ records ∷ []) ++ (table 3 triples store ++ table 5 records findings)
+
+-- a refused run
+abbrev pub refusal : ℕ → List ℕ
+refusal n = line (n ∷ 0 ∷ 0 ∷ [])
+
+-- the first bad line's number, as "bad line 2"
+abbrev pub bad-line-text : ℕ → List ℕ
+bad-line-text k = text "bad line " ++ (digits k ++ (10 ∷ []))
+
+-- the n-th named node that the program puts
+abbrev pub name : ℕ → List ℕ
+name n = text "urn:t" ++ digits n

@@ -1,5 +1,0 @@
-pub mod Handing
-pub mod Tables
-pub mod Refusals
-pub mod Runs
-pub mod Places

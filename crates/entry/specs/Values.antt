@@ -1,6 +1,0 @@
--- The answers that values of the types of src/ stand for. Assumes nothing.
-use Rattle.entry.specs.declared.dictionary.Place.{Place}
-use Rattle.entry.specs.Calls.{Place-answer, place-answer}
-
-abbrev pub placed : Place → Place-answer
-placed p = place-answer (p .number) (p .kind) (p .begin) (p .len)

@@ -1,8 +1,0 @@
--- What is left of records of which the first are lent: these as the call leaves them, then the others as they were. Assumes nothing.
-use mathlib.Core.List.{List, _++_}
-use Rattle.records.specs.declared.Finding.{Finding}
-use Rattle.records.specs.Records.{Records-result}
-use Rattle.lent_cases.specs.declared.lent.Filled.{Filled}
-
-abbrev pub filled-of : Records-result → List Finding → Filled
-filled-of g others = record { number = g .number; records = g .records ++ others }

@@ -1,3 +1,0 @@
-pub mod Shown
-pub mod Values
-pub mod Loads

@@ -1,0 +1,14 @@
+-- The worked cases of REFERENCE 11 hold of the definitions: one theorem over the table of specs/Cases.antt. Assumes nothing.
+use mathlib.Core.Path.{refl}
+use Rattle.common.specs.Triples.{insert, insert-all, without-zero}
+use Rattle.meaning.specs.ListSets.{representative, members}
+use Rattle.meaning.specs.Start.{start}
+use Rattle.meaning.specs.Table.{rules, checks, gives, consequences}
+use Rattle.meaning.specs.Closure.{round, close, closure, findings, count-of}
+use Rattle.meaning.specs.Run.{run}
+use Rattle.meaning.specs.Cases.{AllHold, cases}
+
+pub starred : AllHold cases
+unfolding run closure start close round members representative findings without-zero count-of consequences gives rules checks insert
+    insert-all
+starred = (refl, (refl, (refl, (refl, (refl, (refl, (refl, (refl, (refl, (refl, (refl, tt)))))))))))

@@ -1,0 +1,13 @@
+pub mod Table
+pub mod Rules
+pub mod Checks
+pub mod Counts
+pub mod ListSets
+pub mod Closure
+pub mod Start
+pub mod LoadClosure
+pub mod Batch
+pub mod Run
+pub mod Refusals
+pub mod Ids
+pub mod Cases

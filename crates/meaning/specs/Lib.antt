@@ -1,0 +1,9 @@
+pub mod Rules
+pub mod ListSets
+pub mod Containers
+pub mod Start
+pub mod Table
+pub mod Closure
+pub mod Run
+pub mod Batch
+pub mod Cases

@@ -1,2 +1,0 @@
-pub mod Patterns
-pub mod Entries

@@ -1,0 +1,59 @@
+-- `trial_replay::calls::run_load` meets its contract. Assumes nothing.
+use borrow.Author.Needs.{needs}
+use Rattle.driver_load.specs.Lent.{lent}
+use Rattle.trial_replay.proofs.Making.{run-is}
+use Rattle.trial_replay.proofs.calls.run_load.Statement.{statement}
+use Rattle.trial_replay.proofs.calls.run_load.Tie as tie
+
+counters-in-requires : tie.Need-counters-in-requires
+counters-in-requires c κs = search needs
+
+run-requires : tie.Need-run-requires
+run-requires c κs = search needs
+
+answer-run-requires : tie.Need-answer-run-requires
+answer-run-requires c κs = search needs
+
+same-length : tie.Need-same-length
+same-length c = search needs
+
+same-length-2 : tie.Need-same-length-2
+same-length-2 c = search needs
+
+same-length-3 : tie.Need-same-length-3
+same-length-3 c = search needs
+
+same-length-4 : tie.Need-same-length-4
+same-length-4 c = search needs
+
+same-length-5 : tie.Need-same-length-5
+same-length-5 c = search needs
+
+same-length-6 : tie.Need-same-length-6
+same-length-6 c = search needs
+
+returns : tie.Need-returns
+returns c =
+    let after-answer-run = c .before .before in
+    let after-run = after-answer-run .before .before .before .before .before .before .before .before .before .before .before
+    .before .before .before in
+    let after-counters-in = after-run .before .before .before .before .before .before in
+    let args = after-counters-in .before .before .before .before .before .before .before .before .before .args in
+    run-is (args .memory .now) (args .table .now) (args .arena .now) (after-counters-in .counters-in .ensures)
+    (lent (args .load .now) (args .store .now) (args .findings .now) (args .work .now)) (after-run .run .ensures)
+    (after-answer-run .answer-run .ensures)
+
+pub run-load-spec : {M : Type 1} → statement M
+run-load-spec =
+    tie.close
+    (tie.spec
+    counters-in-requires
+    run-requires
+    answer-run-requires
+    same-length
+    same-length-2
+    same-length-3
+    same-length-4
+    same-length-5
+    same-length-6
+    returns)

@@ -1,0 +1,53 @@
+-- `trial_start::starts::is_arena_kept` meets its contract. Assumes nothing.
+use Prim.Native.Nat.{_-_}
+use native.Mathlib.Omega.{arith}
+use lib.ListN.{length}
+use borrow.Author.Count.{below-more}
+use borrow.Author.Needs.{needs}
+use Rattle.trial_start.proofs.Marks.{Marked, not-kept, all-kept}
+use Rattle.trial_start.proofs.starts.is_arena_kept.Statement.{statement}
+use Rattle.trial_start.proofs.starts.is_arena_kept.Tie as tie
+
+abbrev Inv-loop : tie.InvT-loop
+Inv-loop arena i₀ i = Marked i arena
+
+abbrev μ-loop : tie.MeasureT-loop
+μ-loop arena i₀ i = length arena - i
+
+loop-holds : tie.Need-loop-holds Inv-loop μ-loop
+loop-holds c = λ k h. absurd (omega arith)
+
+shared-slice-read-if1 : tie.Need-shared-slice-read-if1 Inv-loop μ-loop
+shared-slice-read-if1 c = search needs
+
+returns : tie.Need-returns Inv-loop μ-loop
+returns c =
+    let at-loop = c .before .before .before in
+    let at-start = at-loop .before in
+    not-kept (at-start .args .arena .now) (at-loop .loop .i) (omega arith) (c .if1 .taken)
+
+add-i : tie.Need-add-i Inv-loop μ-loop
+add-i c = search needs
+
+loop-less : tie.Need-loop-less Inv-loop μ-loop
+loop-less c = search needs
+
+loop-again : tie.Need-loop-again Inv-loop μ-loop
+loop-again c = below-more _ _ (c .before .before .before .loop .inv) (c .if1 .left)
+
+returns-2 : tie.Need-returns-2 Inv-loop μ-loop
+returns-2 c = all-kept (c .before .before .args .arena .now) (λ k h. c .before .loop .inv k (omega arith))
+
+pub is-arena-kept-spec : {M : Type 1} → statement M
+is-arena-kept-spec =
+    tie.close
+    (tie.spec
+    Inv-loop
+    μ-loop
+    loop-holds
+    shared-slice-read-if1
+    returns
+    add-i
+    loop-less
+    loop-again
+    returns-2)
