@@ -1,4 +1,4 @@
-/* The plant-model closer, from C: start, put, lookup and run over buffers of bytes.
+/* Tablestork, from C: start, put, lookup and run over buffers of bytes.
  *
  * The library is what `rt staticlib edge_c` makes. Each function takes every input, ends, and is proved to give what crates/edge_c/specs
  * say. Numbers in the table, the load, the store, the findings and the list work buffer are little-endian, four bytes each; a length is

@@ -1,9 +1,9 @@
 -- Rows of numbers and the triples and findings that they hold. Assumes nothing.
 use mathlib.Core.Path.{_≡_, refl, sym, _∙_, ap}
 use mathlib.Core.List.{List, [], _∷_, _++_, append-nil}
-use Prim.Native.Nat.{ℕ, _*_, _-_, _≤_}
+use Prim.Native.Nat.{ℕ, _*_, _-_}
 use native.Mathlib.Omega.{arith}
-use lib.ListN.{length, take, replicate, length-append, length-replicate}
+use lib.ListN.{length, take, replicate}
 use lib.Seq.{take-at}
 use Rattle.common.specs.Triples.{Triple, Finding}
 use Rattle.common.specs.Rows.{flat, flat-findings, triples, findings-of, filled}
@@ -25,11 +25,6 @@ length-flat (t ∷ ts) = let e = length-flat ts in omega arith
 pub length-flat-findings : (fs : List Finding) → length (flat-findings fs) ≡ 5 * length fs
 length-flat-findings [] = refl
 length-flat-findings (x ∷ xs) = let e = length-flat-findings xs in omega arith
-
--- a buffer keeps its length
-pub length-filled : (buffer row : List ℕ) → length row ≤ length buffer → length (filled buffer row) ≡ length buffer
-length-filled buffer row h =
-    omega (arith, length-append row (replicate (length buffer - length row) 0), length-replicate {A = ℕ} (length buffer - length row) 0)
 
 -- the triples that a filled store holds, by their number
 pub triples-filled : (buffer : List ℕ) (ts : List Triple) → triples (take (3 * length ts) (filled buffer (flat ts))) ≡ ts

@@ -5,3 +5,4 @@ pub mod Vocabulary
 pub mod Rows
 pub mod Values
 pub mod Sizes
+pub mod Last

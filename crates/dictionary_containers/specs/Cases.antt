@@ -1,4 +1,4 @@
--- The worked cases of local names, one table; proofs/Cases.antt proves it by one theorem. Assumes nothing.
+-- The worked cases of local names, REFERENCE 11.2, one table; proofs/Cases.antt proves it by one theorem. Assumes nothing.
 use mathlib.Core.Path.{_≡_}
 use mathlib.Core.Bool.{Bool, true, false}
 use mathlib.Core.List.{List, [], _∷_, _++_}

@@ -8,6 +8,8 @@ use lib.ListN.{length, drop}
 use Rattle.common.specs.Triples.{if}
 use Rattle.common.specs.Text.{text}
 use Rattle.common.specs.Digits.{all-digits, value}
+use Rattle.dictionary_layout.specs.Terms.{Term}
+use Rattle.dictionary_layout.specs.Dictionary.{term-of}
 
 -- the rdf namespace and the local name's `_`
 abbrev pub prefix : List ℕ
@@ -25,3 +27,7 @@ is-number bs = all-digits bs && (leb 1 (value 0 bs) && leb (value 0 bs) 18446744
 -- the term of this kind and these bytes is a container property; kind 1 is a named node
 unfoldable pub is-container-term : ℕ → List ℕ → Bool
 is-container-term kind bytes = eqb kind 1 && (starts-with prefix bytes && is-number (drop (length prefix) bytes))
+
+-- the term of this id is one, by a dictionary that holds ts
+abbrev pub is-container : List Term → ℕ → Bool
+is-container ts i = is-container-term (term-of ts i .kind) (term-of ts i .bytes)

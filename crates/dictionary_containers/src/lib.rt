@@ -5,9 +5,9 @@ use dictionary_layout::Counters;
 use dictionary_layout::bytes::same_bytes;
 ghost use mathlib.Core.Path.{_≡_};
 ghost use lib.Dec.{T};
-ghost use Rattle.dictionary_containers.specs.Containers.{starts-with, is-number, is-container-term};
+ghost use Rattle.dictionary_containers.specs.Containers.{starts-with, is-number, is-container-term, is-container};
 ghost use Rattle.dictionary_layout.specs.Layout.{decode};
-ghost use Rattle.dictionary_layout.specs.Dictionary.{valid, term-of};
+ghost use Rattle.dictionary_layout.specs.Dictionary.{valid};
 ghost use Rattle.dictionary_layout.specs.Values.{contents};
 
 // Whether the bytes begin with the prefix.
@@ -64,7 +64,7 @@ pub fn is_container_term(kind: u32, bytes: &[u8]) -> bool
 // Whether the term of an id is a container property, in a dictionary that is not broken; no term is none.
 pub fn is_container(table: &[u32], arena: &[u8], counters: Counters, id: Id) -> bool
     requires { ⌜ T (valid (contents (now table) (now arena) counters)) ⌝ }
-    ensures { λ r. ⌜ r ≡ is-container-term (term-of (decode (contents (now (table .entry)) (now (arena .entry)) counters)) (id .0) .kind) (term-of (decode (contents (now (table .entry)) (now (arena .entry)) counters)) (id .0) .bytes) ⌝ }
+    ensures { λ r. ⌜ r ≡ is-container (decode (contents (now (table .entry)) (now (arena .entry)) counters)) (id .0) ⌝ }
 {
     let place = locate(table, arena, counters, id);
     let start = place.start;

@@ -2,5 +2,5 @@ pub mod Appending
 pub mod Reading
 pub mod Starting
 pub mod Words
-pub mod Finding
+pub mod Searching
 pub mod Putting

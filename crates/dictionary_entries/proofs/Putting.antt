@@ -2,19 +2,20 @@
 use mathlib.Core.Path.{_≡_, sym, _∙_, ap}
 use mathlib.Core.Option.{Option, some, none}
 use mathlib.Core.List.{List, [], _∷_, _++_}
-use Prim.Native.Nat.{ℕ, suc, _+_, _*_, _≤_, _<_}
+use Prim.Native.Nat.{ℕ, suc, _+_, _≤_, _<_}
 use native.Mathlib.Omega.{arith}
 use lib.Dec.{T, leb, ltb, leb→le, le→leb, ltb→lt, lt→ltb}
 use lib.ListN.{length}
 use Rattle.common.specs.Triples.{if}
+use Rattle.common.specs.Sizes.{term-limit}
 use Rattle.common.proofs.Lists.{and→, and←}
 use Rattle.dictionary_layout.specs.Terms.{Term}
-use Rattle.dictionary_layout.specs.Layout.{Dict, chain, size, layout, decode}
+use Rattle.dictionary_layout.specs.Layout.{Dict, chain, size, layout, decode, entry-at}
 use Rattle.dictionary_layout.specs.Dictionary.{place-of, kind-known, short, roomy, Put-answer, put-answer, put-at, abstract-put, valid}
 use Rattle.dictionary_layout.specs.Calls.{put-result, put-gives}
 use Rattle.dictionary_entries.specs.Entries.{id-below, Appendable}
 use Rattle.dictionary_layout.proofs.Choice.{if-yes, if-no}
-use Rattle.dictionary_layout.proofs.Holding.{valid→}
+use Rattle.dictionary_layout.proofs.Holding.{roomy→, valid→}
 use Rattle.dictionary_layout.proofs.Reachable.{put-valid}
 use Rattle.dictionary_entries.proofs.Reading.{count, bytes-used, lengths}
 
@@ -56,32 +57,31 @@ module _ (tl al : ℕ) (ts : List Term) (t : Term) where
             (λ _. put-answer 7 0 ts) r)
 
 -- the tests as facts
+pub kind-facts : (t : Term) → T (kind-known t) → (1 ≤ t .kind) × (t .kind ≤ 3)
+kind-facts t k = let (a, b) = and→ (leb 1 (t .kind)) (leb (t .kind) 3) k in (leb→le 1 (t .kind) a, leb→le (t .kind) 3 b)
+
 pub kind-low : (t : Term) → t .kind < 1 → T (kind-known t) → ⊥
-kind-low t h k = let q = leb→le 1 (t .kind) (and→ (leb 1 (t .kind)) (leb (t .kind) 3) k .0) in omega arith
+kind-low t h k = let q = kind-facts t k .0 in omega arith
 
 pub kind-high : (t : Term) → 3 < t .kind → T (kind-known t) → ⊥
-kind-high t h k = let q = leb→le (t .kind) 3 (and→ (leb 1 (t .kind)) (leb (t .kind) 3) k .1) in omega arith
+kind-high t h k = let q = kind-facts t k .1 in omega arith
 
 pub kind-in : (t : Term) → 1 ≤ t .kind → t .kind ≤ 3 → T (kind-known t)
 kind-in t a b = and← (leb 1 (t .kind)) (leb (t .kind) 3) (le→leb 1 (t .kind) a) (le→leb (t .kind) 3 b)
 
-pub too-long : (t : Term) → 4096 < length (t .bytes) → T (short t) → ⊥
-too-long t h s = let q = leb→le (length (t .bytes)) 4096 s in omega arith
+pub too-long : (t : Term) → term-limit < length (t .bytes) → T (short t) → ⊥
+too-long t h s = let q = leb→le (length (t .bytes)) term-limit s in omega arith
 
-pub no-entry : (tl al : ℕ) (ts : List Term) (t : Term) → tl < 64 + 4 * suc (length ts) → T (roomy tl al ts t) → ⊥
-no-entry tl al ts t h r =
-    let q = leb→le (64 + 4 * suc (length ts)) tl
-    (and→ (leb (64 + 4 * suc (length ts)) tl) (leb (size ts + length (t .bytes)) al) r .0) in omega arith
+pub no-entry : (tl al : ℕ) (ts : List Term) (t : Term) → tl < entry-at (suc (length ts)) → T (roomy tl al ts t) → ⊥
+no-entry tl al ts t h r = let q = roomy→ tl al ts t r .0 in omega arith
 
 pub no-bytes : (tl al : ℕ) (ts : List Term) (t : Term) → al < size ts + length (t .bytes) → T (roomy tl al ts t) → ⊥
-no-bytes tl al ts t h r =
-    let q = leb→le (size ts + length (t .bytes)) al
-    (and→ (leb (64 + 4 * suc (length ts)) tl) (leb (size ts + length (t .bytes)) al) r .1) in omega arith
+no-bytes tl al ts t h r = let q = roomy→ tl al ts t r .1 in omega arith
 
-pub room-in : (tl al : ℕ) (ts : List Term) (t : Term) → 64 + 4 * suc (length ts) ≤ tl → size ts + length (t .bytes) ≤ al
+pub room-in : (tl al : ℕ) (ts : List Term) (t : Term) → entry-at (suc (length ts)) ≤ tl → size ts + length (t .bytes) ≤ al
     → T (roomy tl al ts t)
 room-in tl al ts t a b =
-    and← (leb (64 + 4 * suc (length ts)) tl) (leb (size ts + length (t .bytes)) al) (le→leb (64 + 4 * suc (length ts)) tl a)
+    and← (leb (entry-at (suc (length ts))) tl) (leb (size ts + length (t .bytes)) al) (le→leb (entry-at (suc (length ts))) tl a)
     (le→leb (size ts + length (t .bytes)) al b)
 
 -- a place found in the chain
@@ -124,13 +124,13 @@ module _ (d : Dict) (v : T (valid d)) (t : Term) where
         pub put-7 : (T (roomy tl al (decode d) t) → ⊥) → put-result 7 0 d ≡ put-gives d t
         put-7 n = unchanged 7 0 (abstract-put-7 tl al (decode d) t k s absent n)
 
-        pub put-full-table : tl < 64 + 4 * (d .terms + 1) → put-result 7 0 d ≡ put-gives d t
+        pub put-full-table : tl < entry-at (d .terms + 1) → put-result 7 0 d ≡ put-gives d t
         put-full-table l = put-7 (no-entry tl al (decode d) t (omega (arith, count d v)))
 
         pub put-full-arena : al < d .used + length (t .bytes) → put-result 7 0 d ≡ put-gives d t
         put-full-arena l = put-7 (no-bytes tl al (decode d) t (omega (arith, bytes-used d v)))
 
-        pub put-new : (d' : Dict) → 64 + 4 * (d .terms + 1) ≤ tl → d .used + length (t .bytes) ≤ al
+        pub put-new : (d' : Dict) → entry-at (d .terms + 1) ≤ tl → d .used + length (t .bytes) ≤ al
             → d' ≡ layout tl al (decode d ++ (t ∷ [])) → put-result 0 (d .terms) d' ≡ put-gives d t
         put-new d' a b q =
             let r = room-in tl al (decode d) t (omega (arith, count d v)) (omega (arith, bytes-used d v)) in
@@ -138,7 +138,7 @@ module _ (d : Dict) (v : T (valid d)) (t : Term) where
             (laid-as (put-answer 0 (length (decode d)) (decode d ++ (t ∷ []))) (abstract-put-new tl al (decode d) t k s absent r))
 
   -- what append needs
-  pub appendable : {c : ℕ} → c ≡ chain t → 64 + 4 * (d .terms + 1) ≤ tl → d .used + length (t .bytes) ≤ al → Appendable d t c
+  pub appendable : {c : ℕ} → c ≡ chain t → entry-at (d .terms + 1) ≤ tl → d .used + length (t .bytes) ≤ al → Appendable d t c
   appendable e a b =
       let l = lengths d v in
       record { laid = valid→ d v .1; some = omega (arith, l .some); entry = a; table = l .table; bytes = b; arena = l .arena; chained = e }

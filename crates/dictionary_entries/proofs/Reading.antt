@@ -6,8 +6,9 @@ use native.Mathlib.Omega.{arith}
 use lib.Dec.{T}
 use lib.ListN.{length, getD, take, drop, length-append}
 use lib.Seq.{split-at, getD-drop}
-use Rattle.dictionary_layout.specs.Terms.{Term, term, no-term, start-terms}
-use Rattle.dictionary_layout.specs.Layout.{Dict, chain, size, layout, decode}
+use Rattle.common.specs.Sizes.{heads-width, entry-limit, table-limit, arena-limit}
+use Rattle.dictionary_layout.specs.Terms.{Term, term, no-term, start-terms, start-count}
+use Rattle.dictionary_layout.specs.Layout.{Dict, chain, size, layout, decode, entry-at}
 use Rattle.dictionary_layout.specs.Dictionary.{term-of, valid}
 use Rattle.dictionary_entries.specs.Entries.{start-of, length-of, kind-of, next-of, entry-term, Entry-fits}
 use Rattle.dictionary_layout.proofs.Decoding.{size-append}
@@ -22,7 +23,7 @@ pub record Entry-is (table : List ℕ) (id a l m n : ℕ) : Type 0 where
   pub next : next-of table id ≡ n
 
 -- from a row of entries to the table that it ends
-pub entry-is : (table : List ℕ) (k a l m n : ℕ) → Entry (drop 64 table) k a l m n → Entry-is table k a l m n
+pub entry-is : (table : List ℕ) (k a l m n : ℕ) → Entry (drop heads-width table) k a l m n → Entry-is table k a l m n
 entry-is table k a l m n e = record {
   start = at (4 * k) ∙ e .begins;
   long = place 1 ∙ (at (4 * k + 1) ∙ e .bytes);
@@ -30,11 +31,11 @@ entry-is table k a l m n e = record {
   next = place 3 ∙ (at (4 * k + 3) ∙ e .next);
 }
   where
-    at : (j : ℕ) → getD table (64 + j) 0 ≡ getD (drop 64 table) j 0
-    at j = sym (getD-drop 64 table j 0)
+    at : (j : ℕ) → getD table (64 + j) 0 ≡ getD (drop heads-width table) j 0
+    at j = sym (getD-drop heads-width table j 0)
 
-    place : (r : ℕ) → getD table (64 + 4 * k + r) 0 ≡ getD table (64 + (4 * k + r)) 0
-    place r = let q : 64 + 4 * k + r ≡ 64 + (4 * k + r) = omega arith in ap (λ (j : ℕ). getD table j 0) q
+    place : (r : ℕ) → getD table (entry-at k + r) 0 ≡ getD table (64 + (4 * k + r)) 0
+    place r = let q : entry-at k + r ≡ 64 + (4 * k + r) = omega arith in ap (λ (j : ℕ). getD table j 0) q
 
 -- terms up to a place take no more bytes than all of them
 pub size-upto : (ts : List Term) (k : ℕ) → k < length ts → size (take k ts) + length (term-of ts k .bytes) ≤ size ts
@@ -61,12 +62,12 @@ module _ (d : Dict) (v : T (valid d)) where
 
   -- entries and bytes lie within the buffers, which are not too long
   pub record Lengths : Type 0 where
-    pub some : 31 ≤ d .terms
-    pub few : d .terms ≤ 65535
-    pub entries : 64 + 4 * d .terms ≤ length (d .table)
-    pub table : length (d .table) ≤ 262204
+    pub some : start-count ≤ d .terms
+    pub few : d .terms ≤ entry-limit
+    pub entries : entry-at (d .terms) ≤ length (d .table)
+    pub table : length (d .table) ≤ table-limit
     pub bytes : d .used ≤ length (d .arena)
-    pub arena : length (d .arena) ≤ 1048576
+    pub arena : length (d .arena) ≤ arena-limit
 
   pub lengths : Lengths
   unfolding start-terms
@@ -84,7 +85,7 @@ module _ (d : Dict) (v : T (valid d)) where
       }
 
   -- the head of a chain is its last id
-  pub head : (c : ℕ) → c < 64 → getD (d .table) c 0 ≡ prev (decode d) c (length (decode d))
+  pub head : (c : ℕ) → c < heads-width → getD (d .table) c 0 ≡ prev (decode d) c (length (decode d))
   head c h = ap (λ (x : Dict). getD (x .table) c 0) (sym laid) ∙ table-head (length (d .table)) (length (d .arena)) (decode d) c h
 
   -- an entry
@@ -95,7 +96,7 @@ module _ (d : Dict) (v : T (valid d)) where
       (term-at k .kind) (prev (decode d) (chain (term-at k)) k)
   entry k h =
       entry-is (d .table) k (size (take k (decode d))) (length (term-at k .bytes)) (term-at k .kind) (prev (decode d) (chain (term-at k)) k)
-      (subst (λ (x : Dict). Entry (drop 64 (x .table)) k (size (take k (decode d))) (length (term-at k .bytes))
+      (subst (λ (x : Dict). Entry (drop heads-width (x .table)) k (size (take k (decode d))) (length (term-at k .bytes))
       (term-at k .kind) (prev (decode d) (chain (term-at k)) k)) laid
       (table-entry (length (d .table)) (length (d .arena)) (decode d) k (omega (arith, count))))
 

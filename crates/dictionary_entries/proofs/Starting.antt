@@ -2,53 +2,48 @@
 use mathlib.Core.Path.{_≡_, refl, sym, _∙_, ap}
 use mathlib.Core.Bool.{Bool, true, _&&_}
 use mathlib.Core.List.{List, [], _∷_, _++_}
-use Prim.Native.Nat.{ℕ, zero, suc, _+_, _*_, _-_, _≤_}
+use Prim.Native.Nat.{ℕ, zero, suc, _+_, _-_, _≤_}
 use native.Mathlib.Omega.{arith}
 use native.Mathlib.Numerals.{add-one}
-use lib.Dec.{T, leb, ltb, leb→le, ltb→lt}
+use lib.Dec.{T, leb, leb→le}
 use lib.ListN.{length, take, drop, replicate, length-replicate, replicate-append-replicate}
 use lib.Seq.{sets, paste, take-at, take-length, take-suc, length-take-le, length-paste, take-paste}
 use Rattle.common.specs.Text.{text}
 use Rattle.common.specs.Vocabulary.{first}
+use Rattle.common.specs.Sizes.{heads-width}
 use Rattle.common.proofs.Lists.{and→}
-use Rattle.dictionary_layout.specs.Terms.{Term, term, no-term, start-terms}
-use Rattle.dictionary_layout.specs.Layout.{Dict, dict, chain, size, heads, entries, span, layout, decode}
+use Rattle.dictionary_layout.specs.Terms.{Term, term, no-term, start-terms, start-count, start-bytes}
+use Rattle.dictionary_layout.specs.Layout.{Dict, dict, chain, size, heads, entries, span, layout, decode, start-table, entry-at}
 use Rattle.dictionary_layout.specs.Dictionary.{term-of, start-refusal}
 use Rattle.dictionary_layout.specs.Calls.{start-result, start-gives}
-use Rattle.dictionary_entries.specs.Entries.{Appendable}
-use Rattle.dictionary_entries.specs.Starting.{Upto, Next, Blank}
+use Rattle.dictionary_entries.specs.Entries.{Appendable, with-term}
+use Rattle.dictionary_entries.specs.Starting.{iri-limit, Upto, Next, Blank}
+use Rattle.dictionary_layout.proofs.Rows.{zero-row}
+use Rattle.dictionary_layout.proofs.Vocabulary.{start-sizes}
 use Rattle.dictionary_layout.proofs.Decoding.{decode-layout}
 use Rattle.dictionary_layout.proofs.Holding.{sized→, start-fits→}
 use Rattle.dictionary_layout.proofs.Reachable.{refusal-none, start-accepts}
 use Rattle.dictionary_entries.proofs.Appending.{four, four-set, drop-zeros}
 use Rattle.dictionary_entries.proofs.Reading.{size-upto}
 
-length-start : length start-terms ≡ 31
-unfolding start-terms
-length-start = refl
-
-size-start : size start-terms ≡ 1325
-unfolding start-terms
-size-start = refl
-
--- no term of the start has more than 64 bytes
+-- no term of the start has more bytes than the buffer of its IRI
 abbrev all-below : List Term → Bool
 all-below [] = true
-all-below (t ∷ ts) = leb (length (t .bytes)) 64 && all-below ts
+all-below (t ∷ ts) = leb (length (t .bytes)) iri-limit && all-below ts
 
 all-short : T (all-below start-terms)
 unfolding start-terms
 all-short = tt
 
-short-at : (ts : List Term) → T (all-below ts) → (i : ℕ) → length (term-of ts i .bytes) ≤ 64
+short-at : (ts : List Term) → T (all-below ts) → (i : ℕ) → length (term-of ts i .bytes) ≤ iri-limit
 short-at [] h i = omega arith
-short-at (t ∷ ts) h zero = leb→le (length (t .bytes)) 64 (and→ (leb (length (t .bytes)) 64) (all-below ts) h .0)
-short-at (t ∷ ts) h (suc i) = short-at ts (and→ (leb (length (t .bytes)) 64) (all-below ts) h .1) i
+short-at (t ∷ ts) h zero = leb→le (length (t .bytes)) iri-limit (and→ (leb (length (t .bytes)) iri-limit) (all-below ts) h .0)
+short-at (t ∷ ts) h (suc i) = short-at ts (and→ (leb (length (t .bytes)) iri-limit) (all-below ts) h .1) i
 
 -- THE TERMS THAT ARE THERE
-module _ {d : Dict} {n : ℕ} (u : Upto d n) (h : n ≤ 31) where
+module _ {d : Dict} {n : ℕ} (u : Upto d n) (h : n ≤ start-count) where
   upto-length : length (take n start-terms) ≡ n
-  upto-length = length-take-le n start-terms (omega (arith, length-start))
+  upto-length = length-take-le n start-terms (omega (arith, start-sizes .0))
 
   pub upto-decode : decode d ≡ take n start-terms
   upto-decode = ap decode (u .laid) ∙ decode-layout (length (d .table)) (length (d .arena)) (take n start-terms)
@@ -63,12 +58,12 @@ module _ {d : Dict} {n : ℕ} (u : Upto d n) (h : n ≤ 31) where
 
 -- ONE MORE
 module _ {d : Dict} {id : ℕ} {iri : List ℕ} (x : Next d id iri) where
-  next-size : size (take id start-terms) + length iri ≤ 1325
+  next-size : size (take id start-terms) + length iri ≤ start-bytes
   next-size =
       omega (
         arith,
-        size-upto start-terms id (omega (arith, length-start, x .below)),
-        size-start,
+        size-upto start-terms id (omega (arith, start-sizes .0, x .below)),
+        start-sizes .1,
         ap
             (λ (t : Term). length (t .bytes)) (x .is),
       )
@@ -76,7 +71,7 @@ module _ {d : Dict} {id : ℕ} {iri : List ℕ} (x : Next d id iri) where
   next-terms : take (id + 1) start-terms ≡ decode d ++ (term 1 iri ∷ [])
   next-terms =
       ap (λ (k : ℕ). take k start-terms) (add-one id)
-      ∙ (take-suc start-terms id no-term (omega (arith, length-start, x .below))
+      ∙ (take-suc start-terms id no-term (omega (arith, start-sizes .0, x .below))
       ∙ (λ i. sym (upto-decode (x .before) (omega (arith, x .below))) i ++ (x .is i ∷ [])))
 
   pub next-appendable : {c : ℕ} → c ≡ chain (term 1 iri) → Appendable d (term 1 iri) c
@@ -88,27 +83,27 @@ module _ {d : Dict} {id : ℕ} {iri : List ℕ} (x : Next d id iri) where
             ∙ sym (x .before .laid);
         some = omega (arith, n, x .later);
         entry = omega (arith, n, x .below, r .entries);
-        table = r .table-limit;
+        table = r .table-short;
         bytes = omega (arith, upto-used (x .before) (omega (arith, x .below)), next-size, r .bytes);
-        arena = r .arena-limit;
+        arena = r .arena-short;
         chained = e;
       }
 
-  -- an IRI of the start has at most 64 bytes
-  pub next-short : length iri ≤ 64
+  -- an IRI of the start fits into its buffer
+  pub next-short : length iri ≤ iri-limit
   next-short = omega (arith, short-at start-terms all-short id, ap (λ (t : Term). length (t .bytes)) (x .is))
 
   pub next-done : {d' : Dict} → length (d' .table) ≡ length (d .table) → length (d' .arena) ≡ length (d .arena)
-      → d' ≡ layout (length (d .table)) (length (d .arena)) (decode d ++ (term 1 iri ∷ [])) → Upto d' (id + 1)
+      → d' ≡ with-term d (term 1 iri) → Upto d' (id + 1)
   next-done {d'} a b e =
       let r = x .before .room in
       record {
         room = record {
           entries = omega (arith, r .entries);
-          table-limit = omega (arith, r .table-limit);
+          table-short = omega (arith, r .table-short);
           bytes = omega
               (arith, r .bytes);
-          arena-limit = omega (arith, r .arena-limit);
+          arena-short = omega (arith, r .arena-short);
         };
         laid = e ∙ (λ i. layout (sym a i) (sym b i) (sym next-terms i));
       }
@@ -124,37 +119,36 @@ joined z p q h =
     take-paste (paste z 0 p (length p)) (length p) q (length q) (omega (arith, n)) (omega arith) ∙ (λ i. first i ++ take-length q i)
 
 -- THE FIRST TERM, id 0
-abbrev zeros : ℕ → List ℕ
-zeros n = replicate n 0
-
-first-table : (tl : ℕ) → 188 ≤ tl → sets (zeros tl) 64 (four 0 5 1 0) ≡ zeros 64 ++ (0 ∷ 5 ∷ 1 ∷ 0 ∷ zeros (tl - 68))
+first-table : (tl : ℕ) → start-table ≤ tl → sets (zero-row tl) heads-width (four 0 5 1 0)
+    ≡ zero-row heads-width ++ (0 ∷ 5 ∷ 1 ∷ 0 ∷ zero-row (tl - entry-at 1))
 first-table tl h =
-    let q : tl ≡ 64 + (4 + (tl - 68)) = omega arith in
-    ap (λ (l : List ℕ). sets l 64 (four 0 5 1 0))
-    (ap zeros q ∙ sym (replicate-append-replicate 64 (4 + (tl - 68)) 0 ∙ refl)
-    ∙ ap (λ (l : List ℕ). zeros 64 ++ l) (sym (replicate-append-replicate 4 (tl - 68) 0)))
-    ∙ four-set (zeros 64) (zeros (tl - 68)) 64 0 5 1 0 refl
+    let q : tl ≡ heads-width + (4 + (tl - entry-at 1)) = omega arith in
+    ap (λ (l : List ℕ). sets l heads-width (four 0 5 1 0))
+    (ap zero-row q ∙ sym (replicate-append-replicate heads-width (4 + (tl - entry-at 1)) 0 ∙ refl)
+    ∙ ap (λ (l : List ℕ). zero-row heads-width ++ l) (sym (replicate-append-replicate 4 (tl - entry-at 1) 0)))
+    ∙ four-set (zero-row heads-width) (zero-row (tl - entry-at 1)) heads-width 0 5 1 0 refl
 
 pub blank-done : {table arena table' arena' : List ℕ} → Blank table arena → length table' ≡ length table
-    → length arena' ≡ length arena → table' ≡ sets table (64 + 4 * 0) (four 0 5 1 0) → arena' ≡ paste arena 0 (text "urn:_") 5
+    → length arena' ≡ length arena → table' ≡ sets table (entry-at 0) (four 0 5 1 0) → arena' ≡ paste arena 0 (text "urn:_") 5
     → Upto (dict table' arena' 1 5) 1
 unfolding layout start-terms span entries heads
 blank-done {table} {arena} {table'} {arena'} b tl al e f =
     let r = b .room in
-    let e₁ : table' ≡ zeros 64 ++ (0 ∷ 5 ∷ 1 ∷ 0 ∷ zeros (length table' - 68)) = e
-    ∙ (ap (λ (l : List ℕ). sets l 64 (four 0 5 1 0)) (b .table-zero)
-    ∙ (first-table (length table) (r .entries) ∙ ap (λ (n : ℕ). zeros 64 ++ (0 ∷ 5 ∷ 1 ∷ 0 ∷ zeros (n - 68))) (sym tl))) in
-    let e₂ : arena' ≡ text "urn:_" ++ zeros (length arena' - 5) = f
+    let e₁ : table' ≡ zero-row heads-width ++ (0 ∷ 5 ∷ 1 ∷ 0 ∷ zero-row (length table' - entry-at 1)) = e
+    ∙ (ap (λ (l : List ℕ). sets l heads-width (four 0 5 1 0)) (b .table-zero)
+    ∙ (first-table (length table) (r .entries) ∙ ap
+    (λ (n : ℕ). zero-row heads-width ++ (0 ∷ 5 ∷ 1 ∷ 0 ∷ zero-row (n - entry-at 1))) (sym tl))) in
+    let e₂ : arena' ≡ text "urn:_" ++ zero-row (length arena' - 5) = f
     ∙ (ap (λ (l : List ℕ). text "urn:_" ++ drop 5 l) (b .arena-zero)
     ∙ (ap (λ (l : List ℕ). text "urn:_" ++ l) (drop-zeros 5 (length arena))
-    ∙ ap (λ (n : ℕ). text "urn:_" ++ zeros (n - 5)) (sym al))) in
+    ∙ ap (λ (n : ℕ). text "urn:_" ++ zero-row (n - 5)) (sym al))) in
     record {
       room = record {
         entries = omega (arith, r .entries);
-        table-limit = omega (arith, r .table-limit);
+        table-short = omega (arith, r .table-short);
         bytes = omega
             (arith, r .bytes);
-        arena-limit = omega (arith, r .arena-limit);
+        arena-short = omega (arith, r .arena-short);
       };
       laid = λ i. dict (e₁ i) (e₂ i) 1 5;
     }
@@ -163,13 +157,9 @@ pub joined-by : (z p q : List ℕ) {z' z'' : List ℕ} → length p + length q �
     → z'' ≡ paste z' (length p) q (length q) → take (length p + length q) z'' ≡ p ++ q
 joined-by z p q h e f = ap (take (length p + length q)) (f ∙ ap (λ (x : List ℕ). paste x (length p) q (length q)) e) ∙ joined z p q h
 
--- the next term, by its id and its IRI
-pub next-is : {d : Dict} (id : ℕ) {iri : List ℕ} → Upto d id → T (ltb 0 id) → T (ltb id 31)
-    → term-of start-terms id ≡ term 1 iri → Next d id iri
-next-is id u a b e = record { before = u; later = ltb→lt 0 id a; below = ltb→lt id 31 b; is = e }
-
 -- ALL OF THEM
-pub all-entered : {d : Dict} {tl al : ℕ} → Upto d 31 → length (d .table) ≡ tl → length (d .arena) ≡ al → d ≡ layout tl al start-terms
+pub all-entered : {d : Dict} {tl al : ℕ} → Upto d start-count → length (d .table) ≡ tl → length (d .arena) ≡ al
+    → d ≡ layout tl al start-terms
 unfolding start-terms
 all-entered u a b = u .laid ∙ (λ i. layout (a i) (b i) start-terms)
 
@@ -185,13 +175,13 @@ blank-cleared tl al {table} {arena} e f g =
     record {
       room = record {
         entries = omega arith;
-        table-limit = omega (arith, w .high);
+        table-short = omega (arith, w .high);
         bytes = omega arith;
-        arena-limit = omega
+        arena-short = omega
             (arith, w .arena);
       };
-      table-zero = f ∙ ap zeros (sym p);
-      arena-zero = g ∙ ap zeros (sym q);
+      table-zero = f ∙ ap zero-row (sym p);
+      arena-zero = g ∙ ap zero-row (sym q);
     }
 
 pub start-done : (table arena : List ℕ) {tl al : ℕ} {d : Dict} → start-refusal (length table) (length arena) ≡ 0

@@ -10,7 +10,7 @@ use lib.Dec.{T, ltb, eqb, ltb→lt, eqb→eq}
 use lib.ListN.{length, getD, take, drop, length-drop, drop-of-length-le}
 use lib.Seq.{take-suc, drop-cons, getD-drop}
 use Rattle.common.proofs.Lists.{and→, eq→eqb}
-use Rattle.dictionary_layout.specs.Terms.{term, start-terms}
+use Rattle.dictionary_layout.specs.Terms.{term, start-terms, start-count}
 use Rattle.dictionary_layout.specs.Layout.{Dict}
 use Rattle.dictionary_layout.specs.Dictionary.{same-term, term-of}
 use Rattle.dictionary_entries.specs.Starting.{Upto, Next, word, behind, Ends, listed}
@@ -95,7 +95,7 @@ module _ {names : List ℕ} {from end : ℕ} (r : Reading-name names from end) w
 pub record First (namespace names : List ℕ) (i : ℕ) (ids : List ℕ) (n : ℕ) : Type 0 where
   pub id : i ≡ n
   pub later : 0 < n
-  pub below : n < 31
+  pub below : n < start-count
   pub is : term-of start-terms n ≡ term 1 (namespace ++ word names)
   pub rest : T (listed namespace (behind names) ids (suc n))
 
@@ -106,11 +106,11 @@ listed→ namespace names i ids n h =
     let t = term 1 (namespace ++ word names) in
     let u = term-of start-terms n in
     let l = listed namespace (behind names) ids (suc n) in
-    let (a, h₁) = and→ (eqb i n) (ltb 0 n && (ltb n 31 && (same-term u t && l))) h in
-    let (b, h₂) = and→ (ltb 0 n) (ltb n 31 && (same-term u t && l)) h₁ in
-    let (c, h₃) = and→ (ltb n 31) (same-term u t && l) h₂ in
+    let (a, h₁) = and→ (eqb i n) (ltb 0 n && (ltb n start-count && (same-term u t && l))) h in
+    let (b, h₂) = and→ (ltb 0 n) (ltb n start-count && (same-term u t && l)) h₁ in
+    let (c, h₃) = and→ (ltb n start-count) (same-term u t && l) h₂ in
     let (d, e) = and→ (same-term u t) l h₃ in
-    record { id = eqb→eq i n a; later = ltb→lt 0 n b; below = ltb→lt n 31 c; is = same-term→ u t d; rest = e }
+    record { id = eqb→eq i n a; later = ltb→lt 0 n b; below = ltb→lt n start-count c; is = same-term→ u t d; rest = e }
 
 -- THE LOOP: k of them are there
 pub record Entering (d : Dict) (n : ℕ) (namespace names ids : List ℕ) (from k : ℕ) : Type 0 where

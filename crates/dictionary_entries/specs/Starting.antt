@@ -5,17 +5,22 @@ use mathlib.Core.List.{List, [], _∷_, _++_}
 use Prim.Native.Nat.{ℕ, suc, _-_, _≤_, _<_}
 use lib.Dec.{ltb, eqb}
 use lib.ListN.{length, take, drop, replicate}
+use Rattle.common.specs.Sizes.{table-limit, arena-limit}
 use Rattle.common.specs.Triples.{if}
-use Rattle.dictionary_layout.specs.Terms.{term, start-terms}
-use Rattle.dictionary_layout.specs.Layout.{Dict, layout}
+use Rattle.dictionary_layout.specs.Terms.{term, start-terms, start-count, start-bytes}
+use Rattle.dictionary_layout.specs.Layout.{Dict, start-table, layout}
 use Rattle.dictionary_layout.specs.Dictionary.{same-term, term-of}
+
+-- the most bytes of a term of the start
+abbrev pub iri-limit : ℕ
+iri-limit = 64
 
 -- a table and an arena in which a started dictionary has room
 pub record Startable (table arena : List ℕ) : Type 0 where
-  pub entries : 188 ≤ length table
-  pub table-limit : length table ≤ 262204
-  pub bytes : 1325 ≤ length arena
-  pub arena-limit : length arena ≤ 1048576
+  pub entries : start-table ≤ length table
+  pub table-short : length table ≤ table-limit
+  pub bytes : start-bytes ≤ length arena
+  pub arena-short : length arena ≤ arena-limit
 
 -- the first n of the start's terms are there
 pub record Upto (d : Dict) (n : ℕ) : Type 0 where
@@ -26,7 +31,7 @@ pub record Upto (d : Dict) (n : ℕ) : Type 0 where
 pub record Next (d : Dict) (id : ℕ) (iri : List ℕ) : Type 0 where
   pub before : Upto d id
   pub later : 0 < id
-  pub below : id < 31
+  pub below : id < start-count
   pub is : term-of start-terms id ≡ term 1 iri
 
 -- the first of names that are parted by spaces, and those behind it
@@ -50,7 +55,7 @@ pub record Ends (names : List ℕ) (from end next : ℕ) : Type 0 where
 unfoldable pub listed : List ℕ → List ℕ → List ℕ → ℕ → Bool
 listed namespace names [] n = true
 listed namespace names (i ∷ ids) n =
-    eqb i n && (ltb 0 n && (ltb n 31 && (same-term (term-of start-terms n) (term 1 (namespace ++ word names)) && listed
+    eqb i n && (ltb 0 n && (ltb n start-count && (same-term (term-of start-terms n) (term 1 (namespace ++ word names)) && listed
     namespace (behind names) ids (suc n))))
 
 -- nothing but zeros

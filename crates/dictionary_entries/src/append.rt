@@ -1,22 +1,25 @@
 // One term more: its bytes, its entry, and its id as its chain's head.
+use common::ENTRY_WIDTH;
+use common::HEADS_WIDTH;
 use dictionary_layout::Counters;
 use dictionary_layout::bytes::copy_at;
 ghost use mathlib.Core.Path.{_≡_};
-ghost use mathlib.Core.List.{[], _∷_, _++_};
-ghost use Prim.Native.Nat.{_+_, _*_, _≤_};
+ghost use mathlib.Core.List.{[], _∷_};
+ghost use Prim.Native.Nat.{_+_, _≤_};
 ghost use lib.ListN.{length};
 ghost use lib.Seq.{sets};
+ghost use Rattle.common.specs.Sizes.{entry-width};
 ghost use Rattle.dictionary_layout.specs.Terms.{term};
-ghost use Rattle.dictionary_layout.specs.Layout.{layout, decode};
-ghost use Rattle.dictionary_entries.specs.Entries.{Appendable};
+ghost use Rattle.dictionary_layout.specs.Layout.{entry-at};
+ghost use Rattle.dictionary_entries.specs.Entries.{Appendable, with-term};
 ghost use Rattle.dictionary_layout.specs.Values.{contents};
 
 // Writes the four numbers of the entry of an id.
 pub fn write_entry(table: &mut [u32], id: usize, start: u32, len: u32, kind: u32, next: u32)
-    requires { ⌜ 64 + 4 * id + 4 ≤ length (now table) ⌝ }
-    ensures { λ _. ⌜ now (table .exit) ≡ sets (now (table .entry)) (64 + 4 * id) (start ∷ len ∷ kind ∷ next ∷ []) ⌝ }
+    requires { ⌜ entry-at id + entry-width ≤ length (now table) ⌝ }
+    ensures { λ _. ⌜ now (table .exit) ≡ sets (now (table .entry)) (entry-at id) (start ∷ len ∷ kind ∷ next ∷ []) ⌝ }
 {
-    let at = 64 + 4 * id;
+    let at = HEADS_WIDTH + ENTRY_WIDTH * id;
     table[at] = start;
     table[at + 1] = len;
     table[at + 2] = kind;
@@ -33,7 +36,8 @@ pub fn append(
     chain: usize,
 ) -> Counters
     requires { ⌜ Appendable (contents (now table) (now arena) counters) (term kind (now bytes)) chain ⌝ }
-    ensures { λ r. ⌜ contents (now (table .exit)) (now (arena .exit)) r ≡ layout (length (now (table .entry))) (length (now (arena .entry))) (decode (contents (now (table .entry)) (now (arena .entry)) counters) ++ (term kind (now (bytes .entry)) ∷ [])) ⌝ }
+    ensures { λ r. ⌜ contents (now (table .exit)) (now (arena .exit)) r
+        ≡ with-term (contents (now (table .entry)) (now (arena .entry)) counters) (term kind (now (bytes .entry))) ⌝ }
 {
     let len = bytes.len() as u32;
     let next = table[chain];

@@ -1,4 +1,6 @@
 // Entries: compared with a term, found by their chain, located in the arena.
+use common::ENTRY_WIDTH;
+use common::HEADS_WIDTH;
 use dictionary_layout::Counters;
 use dictionary_layout::bytes::same_bytes;
 ghost use mathlib.Core.Path.{_≡_};
@@ -13,7 +15,7 @@ pub fn names(table: &[u32], arena: &[u8], id: usize, kind: u32, bytes: &[u8]) ->
     requires { ⌜ Entry-fits (now table) (now arena) id ⌝ }
     ensures { λ r. ⌜ r ≡ same-term (entry-term (now (table .entry)) (now (arena .entry)) id) (term kind (now (bytes .entry))) ⌝ }
 {
-    let at = 64 + 4 * id;
+    let at = HEADS_WIDTH + ENTRY_WIDTH * id;
     if table[at + 2] != kind {
         return false;
     }
@@ -23,7 +25,7 @@ pub fn names(table: &[u32], arena: &[u8], id: usize, kind: u32, bytes: &[u8]) ->
 }
 
 // The id of the term, whose chain is given, or the term count where it is not held.
-pub fn find(
+pub fn find_term(
     table: &[u32],
     arena: &[u8],
     counters: Counters,
@@ -32,7 +34,8 @@ pub fn find(
     chain: usize,
 ) -> u32
     requires { ⌜ Chained (contents (now table) (now arena) counters) (term kind (now bytes)) chain ⌝ }
-    ensures { λ r. ⌜ id-below r (counters .terms) ≡ place-of (term kind (now (bytes .entry))) (decode (contents (now (table .entry)) (now (arena .entry)) counters)) ⌝ }
+    ensures { λ r. ⌜ id-below r (counters .terms)
+        ≡ place-of (term kind (now (bytes .entry))) (decode (contents (now (table .entry)) (now (arena .entry)) counters)) ⌝ }
 {
     let mut id = table[chain];
     while id != 0 {
@@ -40,7 +43,7 @@ pub fn find(
         if names(table, arena, at, kind, bytes) {
             return id;
         }
-        id = table[64 + 4 * at + 3];
+        id = table[HEADS_WIDTH + ENTRY_WIDTH * at + 3];
     }
     if names(table, arena, 0, kind, bytes) {
         return 0;

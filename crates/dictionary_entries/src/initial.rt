@@ -2,9 +2,15 @@
 use crate::append::append;
 use crate::append::write_entry;
 use crate::values::Word;
+use common::ARENA_LIMIT;
+use common::ENTRY_WIDTH;
+use common::HEADS_WIDTH;
 use common::Id;
+use common::TABLE_LIMIT;
 use common::Vocab;
 use dictionary_layout::Counters;
+use dictionary_layout::START_BYTES;
+use dictionary_layout::START_TABLE;
 use dictionary_layout::bytes::copy_at;
 use dictionary_layout::hash::digest;
 ghost use mathlib.Core.Path.{_≡_};
@@ -12,11 +18,14 @@ ghost use mathlib.Core.List.{_++_};
 ghost use Prim.Native.Nat.{_+_, _≤_};
 ghost use lib.Dec.{T};
 ghost use lib.ListN.{length, getD};
-ghost use Rattle.dictionary_layout.specs.Terms.{start-terms};
+ghost use Rattle.dictionary_layout.specs.Terms.{start-terms, start-count};
 ghost use Rattle.dictionary_layout.specs.Layout.{layout};
 ghost use Rattle.dictionary_layout.specs.Dictionary.{start-refusal};
 ghost use Rattle.dictionary_entries.specs.Starting.{Upto, Next, Ends, listed, Blank};
 ghost use Rattle.dictionary_layout.specs.Values.{contents};
+
+// The most bytes of a term of the start.
+const IRI_LIMIT: usize = 64;
 
 // Id 0, which stands in no chain.
 fn enter_blank(table: &mut [u32], arena: &mut [u8]) -> Counters
@@ -49,7 +58,7 @@ fn enter_named(
     requires { ⌜ Next (contents (now table) (now arena) counters) (id .0) (now namespace ++ now name) ⌝ }
     ensures { λ r. ⌜ Upto (contents (now (table .exit)) (now (arena .exit)) r) (id .0 + 1) ⌝ }
 {
-    let mut iri = [0u8; 64];
+    let mut iri = [0u8; IRI_LIMIT];
     let seam = namespace.len();
     let end = seam + name.len();
     copy_at(&mut iri, 0, namespace);
@@ -81,7 +90,8 @@ fn enter_names(
     names: &[u8],
     ids: &[u32],
 ) -> Counters
-    requires { ⌜ Upto (contents (now table) (now arena) counters) (getD (now ids) 0 0) × T (listed (now namespace) (now names) (now ids) (getD (now ids) 0 0)) ⌝ }
+    requires { ⌜ Upto (contents (now table) (now arena) counters) (getD (now ids) 0 0)
+        × T (listed (now namespace) (now names) (now ids) (getD (now ids) 0 0)) ⌝ }
     ensures { λ r. ⌜ Upto (contents (now (table .exit)) (now (arena .exit)) r) (getD (now (ids .entry)) 0 0 + length (now (ids .entry))) ⌝ }
 {
     let mut c = counters;
@@ -130,10 +140,10 @@ fn enter_rdfs(table: &mut [u32], arena: &mut [u8], counters: Counters) -> Counte
     enter_names(table, arena, counters, namespace, names, &ids)
 }
 
-// Ids 9 to 30.
+// The ids from 9 on.
 fn enter_owl(table: &mut [u32], arena: &mut [u8], counters: Counters) -> Counters
     requires { ⌜ Upto (contents (now table) (now arena) counters) 9 ⌝ }
-    ensures { λ r. ⌜ Upto (contents (now (table .exit)) (now (arena .exit)) r) 31 ⌝ }
+    ensures { λ r. ⌜ Upto (contents (now (table .exit)) (now (arena .exit)) r) start-count ⌝ }
 {
     let ids = [
         Vocab::OWL_THING.0,
@@ -161,14 +171,17 @@ fn enter_owl(table: &mut [u32], arena: &mut [u8], counters: Counters) -> Counter
     ];
     let namespace = b"http://www.w3.org/2002/07/owl#";
     let names =
-        b"Thing Nothing sameAs inverseOf SymmetricProperty IrreflexiveProperty AsymmetricProperty TransitiveProperty equivalentProperty equivalentClass FunctionalProperty InverseFunctionalProperty intersectionOf unionOf hasValue allValuesFrom someValuesFrom disjointWith onProperty complementOf propertyDisjointWith Class";
+        b"Thing Nothing sameAs inverseOf SymmetricProperty IrreflexiveProperty AsymmetricProperty TransitiveProperty \
+        equivalentProperty equivalentClass FunctionalProperty InverseFunctionalProperty intersectionOf unionOf hasValue \
+        allValuesFrom someValuesFrom disjointWith onProperty complementOf propertyDisjointWith Class";
     enter_names(table, arena, counters, namespace, names, &ids)
 }
 
 // All of them, in a table and an arena of zeros.
 pub fn enter_all(table: &mut [u32], arena: &mut [u8]) -> Counters
     requires { ⌜ Blank (now table) (now arena) ⌝ }
-    ensures { λ r. ⌜ contents (now (table .exit)) (now (arena .exit)) r ≡ layout (length (now (table .entry))) (length (now (arena .entry))) start-terms ⌝ }
+    ensures { λ r. ⌜ contents (now (table .exit)) (now (arena .exit)) r
+        ≡ layout (length (now (table .entry))) (length (now (arena .entry))) start-terms ⌝ }
 {
     let c = enter_blank(table, arena);
     let c = enter_rdf(table, arena, c);
@@ -177,25 +190,25 @@ pub fn enter_all(table: &mut [u32], arena: &mut [u8]) -> Counters
 }
 
 // The number of a start's refusal for a table and an arena of these lengths, or 0.
-pub fn refusal(table: usize, arena: usize) -> u32
+pub fn start_refusal(table: usize, arena: usize) -> u32
     ensures { λ r. ⌜ r ≡ start-refusal table arena ⌝ }
 {
-    if table < 64 {
+    if table < HEADS_WIDTH {
         return 4;
     }
-    if (table - 64) % 4 != 0 {
+    if (table - HEADS_WIDTH) % ENTRY_WIDTH != 0 {
         return 4;
     }
-    if 262204 < table {
+    if TABLE_LIMIT < table {
         return 4;
     }
-    if 1048576 < arena {
+    if ARENA_LIMIT < arena {
         return 4;
     }
-    if table < 188 {
+    if table < START_TABLE {
         return 7;
     }
-    if arena < 1325 {
+    if arena < START_BYTES {
         return 7;
     }
     0

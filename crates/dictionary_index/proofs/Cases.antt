@@ -7,8 +7,7 @@ use Rattle.common.specs.Text.{text}
 use Rattle.dictionary_layout.specs.Terms.{Term, term, rdf, start-terms}
 use Rattle.dictionary_layout.specs.Layout.{Dict, dict, heads, entries, span, layout, read, decode}
 use Rattle.dictionary_layout.specs.Dictionary.{place-from, abstract-put, lookup-answer, abstract-lookup, start-refusal, grows, begins}
-use Rattle.dictionary_layout.specs.Dictionary.{holdable}
-use Rattle.dictionary_layout.specs.Dictionary.{valid}
+use Rattle.dictionary_layout.specs.Dictionary.{holdable, valid}
 use Rattle.dictionary_layout.specs.Calls.{start-gives, put-gives, lookup-gives}
 
 -- a start's refusals: tables of 63 and 189 numbers are ill-sized; 30 entries are too few, and so are 1,324 bytes

@@ -14,7 +14,6 @@ use Rattle.dictionary_index.specs.declared.values.Located.{Located}
 use Rattle.dictionary_index.specs.Values.{located, begin-at, part-begins, further, Locates, Looks-up}
 use Rattle.dictionary_layout.proofs.Choice.{if-yes, if-no}
 use Rattle.dictionary_layout.proofs.Reachable.{lookup-valid, lookup-broken}
-use Rattle.dictionary_index.proofs.Cases.{answers}
 use Rattle.dictionary_entries.proofs.Reading.{count, entry-names, entry-fits}
 
 module _ (ts : List Term) (i : ℕ) where

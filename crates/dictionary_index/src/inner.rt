@@ -1,9 +1,12 @@
-// Put and lookup where the contents are known to be a dictionary's: for those that test them once and not at each call.
+// Put, and where a term lies, where the contents are known to be a dictionary's: for callers that test them once and not at each call.
 use crate::values::Located;
 use crate::values::PutNext;
+use common::ENTRY_WIDTH;
+use common::HEADS_WIDTH;
 use common::Id;
+use common::TERM_LIMIT;
 use dictionary_entries::append::append;
-use dictionary_entries::entry::find;
+use dictionary_entries::entry::find_term;
 use dictionary_layout::Counters;
 use dictionary_layout::hash::digest;
 ghost use mathlib.Core.Path.{_≡_};
@@ -15,15 +18,26 @@ ghost use Rattle.dictionary_layout.specs.Terms.{term};
 ghost use Rattle.dictionary_layout.specs.Dictionary.{valid, lookup-answer};
 ghost use Rattle.dictionary_layout.specs.Calls.{put-gives};
 ghost use Rattle.dictionary_layout.specs.Values.{contents};
-ghost use Rattle.dictionary_index.specs.Values.{put-left, located, further, Locates, Looks-up};
+ghost use Rattle.dictionary_index.specs.Values.{put-left, located, further, Locates};
 
 // A refusal leaves the counters as they are.
-pub fn refused(number: u32, counters: Counters) -> PutNext
+pub fn refused_put(number: u32, counters: Counters) -> PutNext
     ensures { λ r. ⌜ r ≡ record { number = number; id = record { 0 = 0 }; counters = counters } ⌝ }
 {
     PutNext {
         number,
         id: Id(0),
+        counters,
+    }
+}
+
+// The id of a put that is accepted, and the counters as it leaves them.
+fn accepted_put(id: u32, counters: Counters) -> PutNext
+    ensures { λ r. ⌜ r ≡ record { number = 0; id = record { 0 = id }; counters = counters } ⌝ }
+{
+    PutNext {
+        number: 0,
+        id: Id(id),
         counters,
     }
 }
@@ -37,39 +51,33 @@ pub fn put_valid(
     bytes: &[u8],
 ) -> PutNext
     requires { ⌜ T (valid (contents (now table) (now arena) counters)) ⌝ }
-    ensures { λ r. ⌜ put-left r (now (table .exit)) (now (arena .exit)) ≡ put-gives (contents (now (table .entry)) (now (arena .entry)) counters) (term kind (now (bytes .entry))) ⌝ }
+    ensures { λ r. ⌜ put-left r (now (table .exit)) (now (arena .exit))
+        ≡ put-gives (contents (now (table .entry)) (now (arena .entry)) counters) (term kind (now (bytes .entry))) ⌝ }
 {
     if kind < 1 {
-        return refused(10, counters);
+        return refused_put(10, counters);
     }
     if 3 < kind {
-        return refused(10, counters);
+        return refused_put(10, counters);
     }
-    if 4096 < bytes.len() {
-        return refused(11, counters);
+    if TERM_LIMIT < bytes.len() {
+        return refused_put(11, counters);
     }
     let chain = digest(kind, bytes).chain;
-    let id = find(table, arena, counters, kind, bytes, chain);
+    let id = find_term(table, arena, counters, kind, bytes, chain);
     if id < counters.terms {
-        return PutNext {
-            number: 0,
-            id: Id(id),
-            counters,
-        };
+        return accepted_put(id, counters);
     }
-    if table.len() < 64 + 4 * (counters.terms as usize + 1) {
-        return refused(7, counters);
+    if table.len() < HEADS_WIDTH + ENTRY_WIDTH * (counters.terms as usize + 1) {
+        return refused_put(7, counters);
     }
     if arena.len() < counters.used as usize + bytes.len() {
-        return refused(7, counters);
+        return refused_put(7, counters);
     }
     let next = append(table, arena, counters, kind, bytes, chain);
-    PutNext {
-        number: 0,
-        id: Id(counters.terms),
-        counters: next,
-    }
+    accepted_put(counters.terms, next)
 }
+
 // Where the term of an id lies.
 pub fn locate(table: &[u32], arena: &[u8], counters: Counters, id: Id) -> Located
     requires { ⌜ T (valid (contents (now table) (now arena) counters)) ⌝ }
@@ -83,7 +91,7 @@ pub fn locate(table: &[u32], arena: &[u8], counters: Counters, id: Id) -> Locate
             end: 0,
         };
     }
-    let at = 64 + 4 * (id.0 as usize);
+    let at = HEADS_WIDTH + ENTRY_WIDTH * (id.0 as usize);
     let start = table[at] as usize;
     let end = start + table[at + 1] as usize;
     Located {
@@ -105,21 +113,4 @@ pub fn part<'a>(arena: &'a [u8], place: Located, number: &mut u32, kind: &mut u3
     let start = place.start;
     let end = place.end;
     &arena[start..end]
-}
-
-// Lookup without the test for a broken dictionary.
-pub fn lookup_valid<'a>(
-    table: &[u32],
-    arena: &'a [u8],
-    counters: Counters,
-    id: Id,
-    number: &mut u32,
-    kind: &mut u32,
-) -> &'a [u8]
-    requires { ⌜ T (valid (contents (now table) (now arena) counters)) ⌝ }
-    ensures { λ r. ⌜ Looks-up (lookup-answer (now (number .exit)) (now (kind .exit)) (now r)) (ptr (arena .entry)) (ptr r)
-        (contents (now (table .entry)) (now (arena .entry)) counters) (id .0) ⌝ }
-{
-    let place = locate(table, arena, counters, id);
-    part(arena, place, number, kind)
 }

@@ -1,19 +1,18 @@
 // The dictionary, as index.rs has it: start, put and lookup, for all inputs.
-mod inner; // inner.rt: put and lookup where the contents are known to be a dictionary's
+mod inner; // inner.rt: put, and where a term lies, where the contents are known to be a dictionary's
 mod values; // values.rt: what the calls answer
 
 use common::Id;
 use dictionary_entries::initial::enter_all;
-use dictionary_entries::initial::refusal;
+use dictionary_entries::initial::start_refusal;
 pub use dictionary_layout::Counters;
 use dictionary_layout::bytes::clear_bytes;
 use dictionary_layout::bytes::clear_numbers;
 pub use dictionary_valid::is_valid;
 pub use inner::locate;
-pub use inner::lookup_valid;
 use inner::part;
 pub use inner::put_valid;
-use inner::refused;
+use inner::refused_put;
 pub use values::Located;
 pub use values::Put;
 pub use values::PutNext;
@@ -30,7 +29,7 @@ ghost use Rattle.dictionary_index.specs.Values.{start-left, put-left, pu
 pub fn start(table: &mut [u32], arena: &mut [u8]) -> Started
     ensures { λ r. ⌜ start-left r (now (table .exit)) (now (arena .exit)) ≡ start-gives (now (table .entry)) (now (arena .entry)) ⌝ }
 {
-    let number = refusal(table.len(), arena.len());
+    let number = start_refusal(table.len(), arena.len());
     if number != 0 {
         return Started {
             number,
@@ -54,12 +53,13 @@ pub fn put_by_value(
     kind: u32,
     bytes: &[u8],
 ) -> PutNext
-    ensures { λ r. ⌜ put-left r (now (table .exit)) (now (arena .exit)) ≡ put-gives (contents (now (table .entry)) (now (arena .entry)) counters) (term kind (now (bytes .entry))) ⌝ }
+    ensures { λ r. ⌜ put-left r (now (table .exit)) (now (arena .exit))
+        ≡ put-gives (contents (now (table .entry)) (now (arena .entry)) counters) (term kind (now (bytes .entry))) ⌝ }
 {
     if is_valid(table, arena, counters) {
         return put_valid(table, arena, counters, kind, bytes);
     }
-    refused(1, counters)
+    refused_put(1, counters)
 }
 
 // Put: the id of the term, which is added where it is not held. The counters are lent, and changed with the table and the arena.
@@ -70,7 +70,8 @@ pub fn put(
     kind: u32,
     bytes: &[u8],
 ) -> Put
-    ensures { λ r. ⌜ put-lent r (now (table .exit)) (now (arena .exit)) (now (counters .exit)) ≡ put-gives (contents (now (table .entry)) (now (arena .entry)) (now (counters .entry))) (term kind (now (bytes .entry))) ⌝ }
+    ensures { λ r. ⌜ put-lent r (now (table .exit)) (now (arena .exit)) (now (counters .exit))
+        ≡ put-gives (contents (now (table .entry)) (now (arena .entry)) (now (counters .entry))) (term kind (now (bytes .entry))) ⌝ }
 {
     let next = put_by_value(table, arena, *counters, kind, bytes);
     *counters = next.counters;

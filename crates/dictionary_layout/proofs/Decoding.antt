@@ -5,8 +5,10 @@ use Prim.Native.Nat.{ℕ, zero, suc, _+_, _*_, _-_, _≤_}
 use native.Mathlib.Omega.{arith}
 use lib.ListN.{length, take, drop, replicate, length-append, length-replicate}
 use lib.Seq.{drop-at, take-append-seam}
+use Rattle.common.specs.Sizes.{heads-width}
 use Rattle.dictionary_layout.specs.Terms.{Term, term}
-use Rattle.dictionary_layout.specs.Layout.{chain, all-bytes, size, front, entries, all-heads, all-entries, span, layout, read, decode}
+use Rattle.dictionary_layout.specs.Layout.{chain, all-bytes, size, front, entries, all-heads, all-entries, span, layout, read}
+use Rattle.dictionary_layout.specs.Layout.{decode, entry-at}
 
 -- what was laid out is read back
 pub length-span : (n i : ℕ) (f : ℕ → ℕ) → length (span n i f) ≡ n
@@ -45,9 +47,9 @@ pub decode-layout : (tl al : ℕ) (ts : List Term) → decode (layout tl al ts) 
 unfolding decode layout
 decode-layout tl al ts =
     ap (λ l. read (length ts) l (all-bytes ts ++ replicate (al - size ts) 0))
-    (drop-at (span 64 0 (all-heads ts)) (all-entries ts ++ replicate (tl - (64 + 4 * length ts)) 0) 64
-    (length-span 64 0 (all-heads ts)))
-    ∙ read-all ts (replicate (tl - (64 + 4 * length ts)) 0) (replicate (al - size ts) 0)
+    (drop-at (span heads-width 0 (all-heads ts)) (all-entries ts ++ replicate (tl - entry-at (length ts)) 0) heads-width
+    (length-span heads-width 0 (all-heads ts)))
+    ∙ read-all ts (replicate (tl - entry-at (length ts)) 0) (replicate (al - size ts) 0)
 
 -- lengths
 length-entries : (H : ℕ → ℕ) (i at : ℕ) (ts : List Term) → length (entries H i at ts) ≡ 4 * length ts
@@ -63,16 +65,16 @@ pub length-all-bytes : (ts : List Term) → length (all-bytes ts) ≡ size ts
 length-all-bytes [] = refl
 length-all-bytes (t ∷ ts) = let e = length-all-bytes ts in omega (arith, length-append (t .bytes) (all-bytes ts))
 
-pub layout-table : (tl al : ℕ) (ts : List Term) → 64 + 4 * length ts ≤ tl → length (layout tl al ts .table) ≡ tl
+pub layout-table : (tl al : ℕ) (ts : List Term) → entry-at (length ts) ≤ tl → length (layout tl al ts .table) ≡ tl
 unfolding layout
 layout-table tl al ts h =
     omega (
       arith,
-      length-append (span 64 0 (all-heads ts)) (all-entries ts ++ replicate (tl - (64 + 4 * length ts)) 0),
-      length-append (all-entries ts) (replicate (tl - (64 + 4 * length ts)) 0),
-      length-span 64 0 (all-heads ts),
+      length-append (span heads-width 0 (all-heads ts)) (all-entries ts ++ replicate (tl - entry-at (length ts)) 0),
+      length-append (all-entries ts) (replicate (tl - entry-at (length ts)) 0),
+      length-span heads-width 0 (all-heads ts),
       length-all-entries ts,
-      length-replicate {A = ℕ} (tl - (64 + 4 * length ts)) 0,
+      length-replicate {A = ℕ} (tl - entry-at (length ts)) 0,
     )
 
 pub layout-arena : (tl al : ℕ) (ts : List Term) → size ts ≤ al → length (layout tl al ts .arena) ≡ al
@@ -85,6 +87,11 @@ layout-arena tl al ts h =
       length-replicate {A = ℕ}
           (al - size ts) 0,
     )
+
+-- one term more
+pub length-snoc : (ts : List Term) (t : Term) → length (ts ++ (t ∷ [])) ≡ suc (length ts)
+length-snoc [] t = refl
+length-snoc (u ∷ ts) t = ap suc (length-snoc ts t)
 
 pub size-append : (ts us : List Term) → size (ts ++ us) ≡ size ts + size us
 size-append [] us = omega arith

@@ -6,10 +6,11 @@ use native.Mathlib.Omega.{arith}
 use native.Mathlib.Numerals.{add-one}
 use lib.ListN.{length, getD, drop, drop-of-length-le}
 use lib.Seq.{drop-cons}
+use Rattle.common.specs.Sizes.{heads-width, term-limit}
 use Rattle.dictionary_layout.specs.declared.values.Digest.{Digest}
 use Rattle.dictionary_layout.specs.Terms.{Term, term}
 use Rattle.dictionary_layout.specs.Layout.{sum}
-use Rattle.dictionary_layout.specs.Digest.{hash-from, bucket, digest-of}
+use Rattle.dictionary_layout.specs.Digest.{hash-from, bucket, digest-of, bucket-count}
 
 -- after i bytes: what is left gives the same as the whole
 pub record Digesting (kind : ℕ) (bytes : List ℕ) (total hash i : ℕ) : Type 0 where
@@ -46,7 +47,8 @@ module _ {kind : ℕ} {bytes : List ℕ} where
       let q : hash ≡ hash-from kind bytes = sym (ap (hash-from hash) e) ∙ d .hashed in
       λ j. record { chain = s j % 64; bucket = q j / 65536 }
 
-  pub digest-fits : {total hash : ℕ} (i : ℕ) → length bytes ≤ 4096 → Digesting kind bytes total hash i → total ≤ kind + 255 * 4096
+  pub digest-fits : {total hash : ℕ} (i : ℕ) → length bytes ≤ term-limit → Digesting kind bytes total hash i
+      → total ≤ kind + 255 * term-limit
   digest-fits i h d = omega (arith, d .small, d .within)
 
 -- a bucket is below 65,536
@@ -55,12 +57,12 @@ unfolding hash-from
 hash-below h [] l = l
 hash-below h (b ∷ bs) l = hash-below ((h * 2654435761 + b) % 4294967296) bs (omega arith)
 
-pub bucket-below : (t : Term) → t .kind < 4294967296 → bucket t < 65536
+pub bucket-below : (t : Term) → t .kind < 4294967296 → bucket t < bucket-count
 bucket-below t h = let q = hash-below (t .kind) (t .bytes) h in omega arith
 
 -- a digest's chain is below 64, and its bucket below 65,536
-pub chain-below : (t : Term) {d : Digest} → d ≡ digest-of t → d .chain < 64
+pub chain-below : (t : Term) {d : Digest} → d ≡ digest-of t → d .chain < heads-width
 chain-below t e = omega (arith, ap (λ (x : Digest). x .chain) e)
 
-pub digest-bucket : (t : Term) {d : Digest} → t .kind < 4294967296 → d ≡ digest-of t → d .bucket < 65536
+pub digest-bucket : (t : Term) {d : Digest} → t .kind < 4294967296 → d ≡ digest-of t → d .bucket < bucket-count
 digest-bucket t h e = omega (arith, ap (λ (x : Digest). x .bucket) e, bucket-below t h)

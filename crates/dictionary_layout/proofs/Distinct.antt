@@ -1,22 +1,19 @@
--- The terms that can be held, without replaying puts: the start's first, kinds and lengths in range, none twice, all fits. Assumes nothing.
-use mathlib.Core.Path.{_≡_, refl, sym, _∙_, ap, subst}
+-- The terms that can be held, as facts of the terms: the start's first, kinds and lengths in range, none twice, all fits. Assumes nothing.
+use mathlib.Core.Path.{_≡_, refl, sym, subst}
 use mathlib.Core.Logic.{_⊎_, inl, inr}
 use mathlib.Core.Bool.{Bool, true, false, _&&_}
 use mathlib.Core.Option.{some, none}
-use mathlib.Core.List.{List, [], _∷_, _++_, append-assoc}
-use Prim.Native.Nat.{ℕ, zero, suc, _+_, _*_, _<_}
+use mathlib.Core.List.{List, [], _∷_, _++_}
+use Prim.Native.Nat.{ℕ, zero, suc, _<_}
 use native.Mathlib.Omega.{arith}
-use lib.Dec.{T, leb, le→leb}
-use lib.ListN.{length, length-append}
+use lib.Dec.{T}
+use lib.ListN.{length}
 use Rattle.common.specs.Triples.{In, here, there, if}
-use Rattle.common.proofs.Lists.{in-nil, in-cons, in-cases, and→, and←}
+use Rattle.common.proofs.Lists.{in-nil, in-cons, in-cases, and→}
 use Rattle.dictionary_layout.specs.Terms.{Term, start-terms}
-use Rattle.dictionary_layout.specs.Layout.{size}
-use Rattle.dictionary_layout.specs.Dictionary.{same-term, place-from, kind-known, short, roomy, Put-answer, put-answer, put-at}
-use Rattle.dictionary_layout.specs.Dictionary.{abstract-put, term-of, sized, grows}
+use Rattle.dictionary_layout.specs.Dictionary.{same-term, place-from, kind-known, short, abstract-put, term-of, sized, grows}
 use Rattle.dictionary_layout.proofs.Equality.{same-term-refl, same-term→}
-use Rattle.dictionary_layout.proofs.Decoding.{size-append}
-use Rattle.dictionary_layout.proofs.Holding.{Added, end→added, added→end, step, unstep, Fits, Holds, holds-fits}
+use Rattle.dictionary_layout.proofs.Holding.{Added, end→added, step, Fits, Holds, holds-fits}
 
 -- a term is held at a place exactly when it stands in the list
 pub absent→ : (i : ℕ) (t : Term) (ts : List Term) → place-from i t ts ≡ none → In t ts → ⊥
@@ -40,23 +37,6 @@ absent← i t (u ∷ ts) n = go (same-term t u) (same-term→ t u) (absent← (s
     go true f k = absurd (n (here (f tt)))
     go false f k = k
 
--- a put that put-adds
-pub put-adds : (tl al : ℕ) (ts : List Term) (t : Term) → T (kind-known t) → T (short t) → place-from 0 t ts ≡ none
-    → T (roomy tl al ts t) → abstract-put tl al ts t ≡ put-answer 0 (length ts) (ts ++ (t ∷ []))
-unfolding abstract-put
-put-adds tl al ts t k s e r = go (kind-known t) (short t) k s
-  where
-    room : (b : Bool) → T b → (if b (λ _. put-answer 0 (length ts) (ts ++ (t ∷ []))) (λ _. put-answer 7 0 ts))
-        ≡ put-answer 0 (length ts) (ts ++ (t ∷ []))
-    room true h = refl
-    room false h = absurd h
-
-    go : (a b : Bool) → T a → T b → (if a (λ _. if b (λ _. put-at tl al ts t (place-from 0 t ts)) (λ _. put-answer 11 0 ts))
-        (λ _. put-answer 10 0 ts)) ≡ put-answer 0 (length ts) (ts ++ (t ∷ []))
-    go true true k s = ap (put-at tl al ts t) e ∙ room (roomy tl al ts t) r
-    go true false k s = absurd s
-    go false b k s = absurd k
-
 -- none of us stands in ts or before itself in us
 abbrev pub Fresh : List Term → List Term → Type 0
 Fresh ts [] = Unit {0}
@@ -70,35 +50,7 @@ pub record Direct (tl al : ℕ) (ts : List Term) : Type 0 where
   pub fresh : Fresh start-terms more
   pub fits : Fits tl al ts
 
-fits-less : (tl al : ℕ) (ts us : List Term) → Fits tl al (ts ++ us) → Fits tl al ts
-fits-less tl al ts us f = (omega (arith, length-append ts us), omega (arith, size-append ts us))
-
 module _ (tl al : ℕ) where
-  grows← : (ts us : List Term) → ((t : Term) → In t us → T (kind-known t) × T (short t)) → Fresh ts us → Fits tl al (ts ++ us)
-      → T (grows tl al ts us)
-  unfolding grows
-  grows← ts [] w n f = tt
-  grows← ts (u ∷ us) w n f =
-      let g = subst (Fits tl al) (sym (append-assoc ts (u ∷ []) us)) f in
-      let r : T (roomy tl al ts u) = and← (leb (64 + 4 * suc (length ts)) tl) (leb (size ts + length (u .bytes)) al)
-      (le→leb (64 + 4 * suc (length ts)) tl (omega (arith, length-append ts (u ∷ us))))
-      (le→leb (size ts + length (u .bytes)) al (omega (arith, size-append ts (u ∷ us)))) in
-      let m = absent← 0 u ts (n .0) in
-      let (k, s) = w u (here refl) in
-      let e = put-adds tl al ts u k s m r in
-      unstep tl al ts u us
-      (added→end tl al ts u (record {
-        accepted = ap (λ (p : Put-answer). p .number) e;
-        new-id = ap (λ (p : Put-answer). p .id)
-            e;
-        longer = ap (λ (p : Put-answer). p .held) e;
-        known = k;
-        fits = s;
-        fresh = m;
-        room = r;
-      }))
-      (grows← (ts ++ (u ∷ [])) us (λ t i. w t (there i)) (n .1) g)
-
   grows→ : (ts us : List Term) → T (grows tl al ts us) → ((t : Term) → In t us → T (kind-known t) × T (short t)) × Fresh ts us
   grows→ ts [] h = (λ t i. absurd (in-nil i), tt)
   grows→ ts (u ∷ us) h =
@@ -112,25 +64,12 @@ module _ (tl al : ℕ) where
       pick t d w (inl e) = subst (λ x. T (kind-known x) × T (short x)) (sym e) (d .known, d .fits)
       pick t d w (inr i) = w t i
 
-pub direct→ : (tl al : ℕ) (ts : List Term) → Direct tl al ts → Holds tl al ts
-direct→ tl al ts d =
-    let f = subst (Fits tl al) (d .whole) (d .fits) in
-    let (a, b) = fits-less tl al start-terms (d .more) f in
-    record {
-      sizes = d .sizes;
-      starts = and← (leb (64 + 4 * length start-terms) tl) (leb (size start-terms) al)
-          (le→leb (64 + 4 * length start-terms) tl a) (le→leb (size start-terms) al b);
-      more = d .more;
-      whole = d .whole;
-      grown = grows← tl al start-terms (d .more) (d .well) (d .fresh) f;
-    }
-
 pub direct← : (tl al : ℕ) (ts : List Term) → Holds tl al ts → Direct tl al ts
 direct← tl al ts h =
     let (w, n) = grows→ tl al start-terms (h .more) (h .grown) in
     record { sizes = h .sizes; more = h .more; whole = h .whole; well = w; fresh = n; fits = holds-fits tl al ts h }
 
--- EVERY TERM THAT CAN BE HELD has a kind from 1 to 3 and at most 4,096 bytes
+-- EVERY TERM THAT CAN BE HELD has a kind from 1 to 3 and at most `term-limit` bytes
 abbrev pub all-well : List Term → Bool
 all-well [] = true
 all-well (t ∷ ts) = (kind-known t && short t) && all-well ts

@@ -4,18 +4,19 @@ use mathlib.Core.Logic.{_⊎_, inl, inr}
 use mathlib.Core.Bool.{Bool, true, false, _&&_}
 use mathlib.Core.Option.{Option, some, none}
 use mathlib.Core.List.{List, [], _∷_, _++_, append-assoc, append-nil}
-use Prim.Native.Nat.{ℕ, suc, _+_, _*_, _-_, _%_, _≤_}
+use Prim.Native.Nat.{ℕ, suc, _+_, _-_, _%_, _≤_}
 use native.Mathlib.Omega.{arith}
 use lib.Dec.{T, leb, eqb, leb→le, le→leb, eqb→eq}
 use lib.ListN.{length}
 use Rattle.common.specs.Triples.{if}
+use Rattle.common.specs.Sizes.{heads-width, entry-width, table-limit, arena-limit}
 use Rattle.common.proofs.Lists.{and→, and←, eq→eqb}
-use Rattle.dictionary_layout.specs.Terms.{Term, start-terms}
-use Rattle.dictionary_layout.specs.Layout.{Dict, size, layout, decode}
+use Rattle.dictionary_layout.specs.Terms.{Term, start-terms, start-bytes}
+use Rattle.dictionary_layout.specs.Layout.{Dict, size, layout, decode, start-table, entry-at}
 use Rattle.dictionary_layout.specs.Dictionary.{same-term, same-dict, place-from, kind-known, short, roomy, Put-answer, put-answer}
 use Rattle.dictionary_layout.specs.Dictionary.{put-at, abstract-put, sized, start-fits, adds, grows, begins, holdable, valid}
 use Rattle.dictionary_layout.proofs.Equality.{same-term-refl, same-term→, same-dict-refl, same-dict→}
-use Rattle.dictionary_layout.proofs.Decoding.{decode-layout, layout-table, layout-arena, size-append}
+use Rattle.dictionary_layout.proofs.Decoding.{decode-layout, layout-table, layout-arena, length-snoc, size-append}
 
 -- the two ways of a put
 pub record Added (tl al : ℕ) (ts : List Term) (t : Term) (p : Put-answer) : Type 0 where
@@ -27,53 +28,57 @@ pub record Added (tl al : ℕ) (ts : List Term) (t : Term) (p : Put-answer) : Ty
   pub fresh : place-from 0 t ts ≡ none
   pub room : T (roomy tl al ts t)
 
-pub put-cases : (tl al : ℕ) (ts : List Term) (t : Term) → (abstract-put tl al ts t .held ≡ ts) ⊎ Added tl al ts t (abstract-put tl al ts t)
+abbrev pub Ways : ℕ → ℕ → List Term → Term → Put-answer → Type 0
+Ways tl al ts t p = (p .held ≡ ts) ⊎ Added tl al ts t p
+
+pub put-cases : (tl al : ℕ) (ts : List Term) (t : Term) → Ways tl al ts t (abstract-put tl al ts t)
 unfolding abstract-put
 put-cases tl al ts t = go (kind-known t) (short t) (λ h. h) (λ h. h)
   where
     room : (b : Bool) (e : place-from 0 t ts ≡ none) → T (kind-known t) → T (short t) → (T b → T (roomy tl al ts t))
-        → ((if b (λ _. put-answer 0 (length ts) (ts ++ (t ∷ []))) (λ _. put-answer 7 0 ts)) .held ≡ ts)
-        ⊎ Added tl al ts t (if b (λ _. put-answer 0 (length ts) (ts ++ (t ∷ []))) (λ _. put-answer 7 0 ts))
+        → Ways tl al ts t (if b (λ _. put-answer 0 (length ts) (ts ++ (t ∷ []))) (λ _. put-answer 7 0 ts))
     room true e k s f = inr (record { accepted = refl; new-id = refl; longer = refl; known = k; fits = s; fresh = e; room = f tt })
     room false e k s f = inl refl
 
-    place : (q : Option ℕ) → place-from 0 t ts ≡ q → T (kind-known t) → T (short t)
-        → (put-at tl al ts t q .held ≡ ts) ⊎ Added tl al ts t (put-at tl al ts t q)
+    place : (q : Option ℕ) → place-from 0 t ts ≡ q → T (kind-known t) → T (short t) → Ways tl al ts t (put-at tl al ts t q)
     place (some i) e k s = inl refl
     place none e k s = room (roomy tl al ts t) e k s (λ h. h)
 
-    go : (a b : Bool) → (T a → T (kind-known t)) → (T b → T (short t))
-        → ((if a (λ _. if b (λ _. put-at tl al ts t (place-from 0 t ts)) (λ _. put-answer 11 0 ts))
-        (λ _. put-answer 10 0 ts)) .held ≡ ts) ⊎ Added tl al ts t
+    go : (a b : Bool) → (T a → T (kind-known t)) → (T b → T (short t)) → Ways tl al ts t
         (if a (λ _. if b (λ _. put-at tl al ts t (place-from 0 t ts)) (λ _. put-answer 11 0 ts)) (λ _. put-answer 10 0 ts))
     go true true f g = place (place-from 0 t ts) refl (f tt) (g tt)
     go true false f g = inl refl
     go false b f g = inl refl
 
-length-snoc : (ts : List Term) (t : Term) → length (ts ++ (t ∷ [])) ≡ suc (length ts)
-length-snoc [] t = refl
-length-snoc (u ∷ ts) t = ap suc (length-snoc ts t)
+-- what `roomy` tests
+pub roomy→ : (tl al : ℕ) (ts : List Term) (t : Term) → T (roomy tl al ts t)
+    → (entry-at (suc (length ts)) ≤ tl) × (size ts + length (t .bytes) ≤ al)
+roomy→ tl al ts t r =
+    let entry = entry-at (suc (length ts)) in
+    let end = size ts + length (t .bytes) in
+    let (a, b) = and→ (leb entry tl) (leb end al) r in
+    (leb→le entry tl a, leb→le end al b)
+
+-- what `adds` tests
+adds→ : (n : ℕ) (p : Put-answer) → T (adds n p) → length (p .held) ≡ suc n
+adds→ n p h =
+    let longer = eqb (length (p .held)) (suc n) in eqb→eq (length (p .held)) (suc n) (and→ (eqb (p .number) 0) longer h .1)
+
+adds← : (n : ℕ) (p : Put-answer) → p .number ≡ 0 → length (p .held) ≡ suc n → T (adds n p)
+adds← n p a b =
+    and← (eqb (p .number) 0) (eqb (length (p .held)) (suc n)) (eq→eqb (p .number) 0 a) (eq→eqb (length (p .held)) (suc n) b)
 
 module _ (tl al : ℕ) where
   pub end→added : (ts : List Term) (t : Term) → T (adds (length ts) (abstract-put tl al ts t)) → Added tl al ts t (abstract-put tl al ts t)
   end→added ts t h = go (put-cases tl al ts t)
     where
-      go : (abstract-put tl al ts t .held ≡ ts) ⊎ Added tl al ts t (abstract-put tl al ts t) → Added tl al ts t (abstract-put tl al ts t)
-      go (inl e) =
-          absurd (omega (
-            arith,
-            ap (λ (l : List Term). length l) e,
-            eqb→eq (length (abstract-put tl al ts t .held))
-                (suc (length ts)) (and→ (eqb (abstract-put tl al ts t .number) 0)
-                (eqb (length (abstract-put tl al ts t .held)) (suc (length ts))) h .1),
-          ))
+      go : Ways tl al ts t (abstract-put tl al ts t) → Added tl al ts t (abstract-put tl al ts t)
+      go (inl e) = absurd (omega (arith, ap (λ (l : List Term). length l) e, adds→ (length ts) (abstract-put tl al ts t) h))
       go (inr a) = a
 
   pub added→end : (ts : List Term) (t : Term) → Added tl al ts t (abstract-put tl al ts t) → T (adds (length ts) (abstract-put tl al ts t))
   added→end ts t a =
-      and← (eqb (abstract-put tl al ts t .number) 0) (eqb (length (abstract-put tl al ts t .held)) (suc (length ts)))
-      (eq→eqb (abstract-put tl al ts t .number) 0 (a .accepted))
-      (eq→eqb (length (abstract-put tl al ts t .held)) (suc (length ts)) (ap (λ (l : List Term). length l) (a .longer) ∙ length-snoc ts t))
+      adds← (length ts) (abstract-put tl al ts t) (a .accepted) (ap (λ (l : List Term). length l) (a .longer) ∙ length-snoc ts t)
 
   -- the terms grow by one more
   pub step : (ts : List Term) (u : Term) (us : List Term) → T (grows tl al ts (u ∷ us))
@@ -104,14 +109,11 @@ module _ (tl al : ℕ) where
       (subst (λ l. T (adds (length l) (abstract-put tl al l t))) (sym (append-assoc ts (u ∷ []) us)) e))
 
   abbrev pub Fits : List Term → Type 0
-  Fits ts = (64 + 4 * length ts ≤ tl) × (size ts ≤ al)
+  Fits ts = (entry-at (length ts) ≤ tl) × (size ts ≤ al)
 
   fits-snoc : (ts : List Term) (t : Term) → T (roomy tl al ts t) → Fits (ts ++ (t ∷ []))
   fits-snoc ts t r =
-      let (a, b) = and→ (leb (64 + 4 * suc (length ts)) tl) (leb (size ts + length (t .bytes)) al) r in
-      let f = leb→le (64 + 4 * suc (length ts)) tl a in
-      let g = leb→le (size ts + length (t .bytes)) al b in
-      (omega (arith, length-snoc ts t), omega (arith, size-append ts (t ∷ [])))
+      let (f, g) = roomy→ tl al ts t r in (omega (arith, length-snoc ts t), omega (arith, size-append ts (t ∷ [])))
 
   grows-fits : (ts us : List Term) → T (grows tl al ts us) → Fits ts → Fits (ts ++ us)
   grows-fits ts [] h f = subst Fits (sym (append-nil ts)) f
@@ -165,8 +167,8 @@ holds← tl al ts h =
 
 start-Fits : (tl al : ℕ) → T (start-fits tl al) → Fits tl al start-terms
 start-Fits tl al h =
-    let (a, b) = and→ (leb (64 + 4 * length start-terms) tl) (leb (size start-terms) al) h in
-    (leb→le (64 + 4 * length start-terms) tl a, leb→le (size start-terms) al b)
+    let (a, b) = and→ (leb (entry-at (length start-terms)) tl) (leb (size start-terms) al) h in
+    (leb→le (entry-at (length start-terms)) tl a, leb→le (size start-terms) al b)
 
 pub holds-fits : (tl al : ℕ) (ts : List Term) → Holds tl al ts → Fits tl al ts
 holds-fits tl al ts h =
@@ -180,7 +182,7 @@ holds-start tl al a b = record { sizes = a; starts = b; more = []; whole = sym (
 pub holds-put : (tl al : ℕ) (ts : List Term) (t : Term) → Holds tl al ts → Holds tl al (abstract-put tl al ts t .held)
 holds-put tl al ts t h = go (put-cases tl al ts t)
   where
-    go : (abstract-put tl al ts t .held ≡ ts) ⊎ Added tl al ts t (abstract-put tl al ts t) → Holds tl al (abstract-put tl al ts t .held)
+    go : Ways tl al ts t (abstract-put tl al ts t) → Holds tl al (abstract-put tl al ts t .held)
     go (inl e) = subst (Holds tl al) (sym e) h
     go (inr a) = record {
       sizes = h .sizes;
@@ -196,51 +198,53 @@ pub valid-layout : (tl al : ℕ) (ts : List Term) → Holds tl al ts → T (vali
 unfolding valid
 valid-layout tl al ts h =
     let (f, g) = holds-fits tl al ts h in
+    let d = layout tl al ts in
     let e₁ = layout-table tl al ts f in
     let e₂ = layout-arena tl al ts g in
     let e₃ = decode-layout tl al ts in
-    and← (holdable (length (layout tl al ts .table)) (length (layout tl al ts .arena)) (decode (layout tl al ts)))
-    (same-dict (layout (length (layout tl al ts .table)) (length (layout tl al ts .arena)) (decode (layout tl al ts)))
-    (layout tl al ts))
+    and← (holdable (length (d .table)) (length (d .arena)) (decode d))
+    (same-dict (layout (length (d .table)) (length (d .arena)) (decode d)) d)
     (subst (λ (b : Bool). T b) (λ i. holdable (sym e₁ i) (sym e₂ i) (sym e₃ i)) (holds← tl al ts h))
-    (subst (λ (b : Bool). T b) (λ i. same-dict (layout (sym e₁ i) (sym e₂ i) (sym e₃ i)) (layout tl al ts))
-    (same-dict-refl (layout tl al ts)))
+    (subst (λ (b : Bool). T b) (λ i. same-dict (layout (sym e₁ i) (sym e₂ i) (sym e₃ i)) d) (same-dict-refl d))
 
 pub valid→ : (d : Dict) → T (valid d) → Holds (length (d .table)) (length (d .arena)) (decode d)
     × (layout (length (d .table)) (length (d .arena)) (decode d) ≡ d)
 unfolding valid
 valid→ d h =
-    let (a, b) = and→ (holdable (length (d .table)) (length (d .arena)) (decode d))
-    (same-dict (layout (length (d .table)) (length (d .arena)) (decode d)) d) h in (
-      holds→ (length (d .table)) (length (d .arena)) (decode d) a,
-      same-dict→
-          (layout (length (d .table)) (length (d .arena)) (decode d)) d b,
-    )
+    let tl = length (d .table) in
+    let al = length (d .arena) in
+    let laid = layout tl al (decode d) in
+    let (a, b) = and→ (holdable tl al (decode d)) (same-dict laid d) h in
+    (holds→ tl al (decode d) a, same-dict→ laid d b)
 
 -- THE SIZES, as facts
 pub record Well-sized (tl al : ℕ) : Type 0 where
-  pub low : 64 ≤ tl
-  pub whole : (tl - 64) % 4 ≡ 0
-  pub high : tl ≤ 262204
-  pub arena : al ≤ 1048576
+  pub low : heads-width ≤ tl
+  pub whole : (tl - heads-width) % entry-width ≡ 0
+  pub high : tl ≤ table-limit
+  pub arena : al ≤ arena-limit
 
 pub sized→ : (tl al : ℕ) → T (sized tl al) → Well-sized tl al
 sized→ tl al h =
-    let (a, k) = and→ (leb 64 tl) (eqb ((tl - 64) % 4) 0 && (leb tl 262204 && leb al 1048576)) h in
-    let (b, l) = and→ (eqb ((tl - 64) % 4) 0) (leb tl 262204 && leb al 1048576) k in
-    let (c, m) = and→ (leb tl 262204) (leb al 1048576) l in
-    record { low = leb→le 64 tl a; whole = eqb→eq ((tl - 64) % 4) 0 b; high = leb→le tl 262204 c; arena = leb→le al 1048576 m }
+    let rest = (tl - heads-width) % entry-width in
+    let limits = leb tl table-limit && leb al arena-limit in
+    let (a, k) = and→ (leb heads-width tl) (eqb rest 0 && limits) h in
+    let (b, l) = and→ (eqb rest 0) limits k in
+    let (c, m) = and→ (leb tl table-limit) (leb al arena-limit) l in
+    record { low = leb→le heads-width tl a; whole = eqb→eq rest 0 b; high = leb→le tl table-limit c; arena = leb→le al arena-limit m }
 
 pub sized← : (tl al : ℕ) → Well-sized tl al → T (sized tl al)
 sized← tl al s =
-    and← (leb 64 tl) (eqb ((tl - 64) % 4) 0 && (leb tl 262204 && leb al 1048576)) (le→leb 64 tl (s .low))
-    (and← (eqb ((tl - 64) % 4) 0) (leb tl 262204 && leb al 1048576) (eq→eqb ((tl - 64) % 4) 0 (s .whole))
-    (and← (leb tl 262204) (leb al 1048576) (le→leb tl 262204 (s .high)) (le→leb al 1048576 (s .arena))))
+    let rest = (tl - heads-width) % entry-width in
+    let limits = leb tl table-limit && leb al arena-limit in
+    and← (leb heads-width tl) (eqb rest 0 && limits) (le→leb heads-width tl (s .low))
+    (and← (eqb rest 0) limits (eq→eqb rest 0 (s .whole))
+    (and← (leb tl table-limit) (leb al arena-limit) (le→leb tl table-limit (s .high)) (le→leb al arena-limit (s .arena))))
 
-pub start-fits→ : (tl al : ℕ) → T (start-fits tl al) → (188 ≤ tl) × (1325 ≤ al)
+pub start-fits→ : (tl al : ℕ) → T (start-fits tl al) → (start-table ≤ tl) × (start-bytes ≤ al)
 unfolding start-terms
-start-fits→ tl al h = let (a, b) = and→ (leb 188 tl) (leb 1325 al) h in (leb→le 188 tl a, leb→le 1325 al b)
+start-fits→ tl al h = let (a, b) = and→ (leb start-table tl) (leb start-bytes al) h in (leb→le start-table tl a, leb→le start-bytes al b)
 
-pub start-fits← : (tl al : ℕ) → 188 ≤ tl → 1325 ≤ al → T (start-fits tl al)
+pub start-fits← : (tl al : ℕ) → start-table ≤ tl → start-bytes ≤ al → T (start-fits tl al)
 unfolding start-terms
-start-fits← tl al a b = and← (leb 188 tl) (leb 1325 al) (le→leb 188 tl a) (le→leb 1325 al b)
+start-fits← tl al a b = and← (leb start-table tl) (leb start-bytes al) (le→leb start-table tl a) (le→leb start-bytes al b)

@@ -11,17 +11,15 @@ use Rattle.common.specs.Triples.{if}
 use Rattle.dictionary_layout.specs.Terms.{Term, start-terms}
 use Rattle.dictionary_layout.specs.Layout.{Dict, dict, layout, decode}
 use Rattle.dictionary_layout.specs.Dictionary.{abstract-put, if-zero, lookup-answer, abstract-lookup, sized, start-fits}
-use Rattle.dictionary_layout.specs.Dictionary.{start-refusal}
-use Rattle.dictionary_layout.specs.Dictionary.{grows, valid}
+use Rattle.dictionary_layout.specs.Dictionary.{start-refusal, grows, valid}
 use Rattle.dictionary_layout.specs.Calls.{on-valid, Start-result, start-result, start-gives, Put-result, put-result, put-laid}
 use Rattle.dictionary_layout.specs.Calls.{put-gives, lookup-gives, puts, Reachable}
 use Rattle.dictionary_layout.proofs.Choice.{if-yes, if-no, decide-bool}
 use Rattle.dictionary_layout.proofs.Decoding.{decode-layout, layout-table, layout-arena}
-use Rattle.dictionary_layout.proofs.Holding.{Added, put-cases, end→added, step, Holds, holds-fits, holds-start, holds-put}
+use Rattle.dictionary_layout.proofs.Holding.{Ways, put-cases, end→added, step, Holds, holds-fits, holds-start, holds-put}
 use Rattle.dictionary_layout.proofs.Holding.{valid-layout, valid→}
 
 -- contents that hold terms are valid and name those terms: what a call gives is computed from them
-
 pub on-layout : {A : Type 0} (tl al : ℕ) (ts : List Term) (f : ℕ → ℕ → List Term → A) (g : Unit {0} → A) → Holds tl al ts
     → on-valid (layout tl al ts) f g ≡ f tl al ts
 on-layout tl al ts f g h =
@@ -128,9 +126,9 @@ reachable→valid d r =
 pub valid→reachable : (d : Dict) → T (valid d) → Reachable d
 valid→reachable d v =
     let (h, e) = valid→ d v in
-    let s = start-accepts (d .table) (d .arena) (sym (no-refusal (length (d .table)) (length (d .arena)) (h .sizes) (h .starts))) in
     let tl = length (d .table) in
     let al = length (d .arena) in
+    let s = start-accepts (d .table) (d .arena) (sym (no-refusal tl al (h .sizes) (h .starts))) in
     record {
       table = d .table;
       arena = d .arena;
@@ -165,15 +163,18 @@ module _ (d : Dict) (t : Term) where
   pub put-refused : put-gives d t .number ≢ 0 → put-gives d t .contents ≡ d
   put-refused n = go (decide-bool (valid d))
     where
-      kept : T (valid d) → (abstract-put (length (d .table)) (length (d .arena)) (decode d) t .held ≡ decode d)
-          ⊎ Added (length (d .table)) (length (d .arena)) (decode d) t
-          (abstract-put (length (d .table)) (length (d .arena)) (decode d) t) → put-gives d t .contents ≡ d
-      kept v (inl e) =
-          ap (λ (r : Put-result). r .contents) (put-valid v) ∙ (ap (layout (length (d .table)) (length (d .arena))) e ∙ valid→ d v .1)
+      tl : ℕ
+      tl = length (d .table)
+
+      al : ℕ
+      al = length (d .arena)
+
+      kept : T (valid d) → Ways tl al (decode d) t (abstract-put tl al (decode d) t) → put-gives d t .contents ≡ d
+      kept v (inl e) = ap (λ (r : Put-result). r .contents) (put-valid v) ∙ (ap (layout tl al) e ∙ valid→ d v .1)
       kept v (inr a) = absurd (n (ap (λ (r : Put-result). r .number) (put-valid v) ∙ a .accepted))
 
       go : T (valid d) ⊎ (T (valid d) → ⊥) → put-gives d t .contents ≡ d
-      go (inl v) = kept v (put-cases (length (d .table)) (length (d .arena)) (decode d) t)
+      go (inl v) = kept v (put-cases tl al (decode d) t)
       go (inr b) = ap (λ (r : Put-result). r .contents) (put-broken b)
 
 -- WHAT A LOOKUP GIVES

@@ -15,7 +15,6 @@ use Rattle.dictionary_layout.proofs.Choice.{is-true, is-false}
 use Rattle.dictionary_layout.proofs.Equality.{same-row-refl, same-row→}
 
 -- the first i places agree
-
 abbrev pub Agree : ℕ → List ℕ → List ℕ → Type 0
 Agree i a b = (k : ℕ) → k < i → getD a k 0 ≡ getD b k 0
 
@@ -32,8 +31,12 @@ module _ (a b : List ℕ) where
   pub all-agree : length a ≡ length b → Agree (length a) a b → true ≡ same-row a b
   all-agree e f = is-true (same-row a b) (subst (λ (x : List ℕ). T (same-row a x)) (ext-getD 0 a b e f) (same-row-refl a))
 
+-- so many zeros
+abbrev pub zero-row : ℕ → List ℕ
+zero-row n = replicate n 0
+
 -- a row of zeros has zero at every place
-pub zeros-at : (m i : ℕ) → getD (replicate {A = ℕ} m 0) i 0 ≡ 0
+pub zeros-at : (m i : ℕ) → getD (zero-row m) i 0 ≡ 0
 zeros-at zero i = refl
 zeros-at (suc m) zero = refl
 zeros-at (suc m) (suc i) = zeros-at m i

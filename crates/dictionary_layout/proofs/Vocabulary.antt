@@ -1,4 +1,4 @@
--- The vocabulary ids are the places of the right terms in a started dictionary, so that no id can drift from its IRI. Assumes nothing.
+-- The vocabulary ids are the places of the right terms in a started dictionary, so that each id stands for its IRI. Assumes nothing.
 use mathlib.Core.Path.{_≡_, refl}
 use mathlib.Core.Option.{some}
 use Prim.Native.Nat.{ℕ}
@@ -8,7 +8,7 @@ use Rattle.common.specs.Vocabulary.{type, first, rest, nil, domain, range, subP
 use Rattle.common.specs.Vocabulary.{SymmetricProperty, IrreflexiveProperty, AsymmetricProperty, TransitiveProperty, equivalentProperty}
 use Rattle.common.specs.Vocabulary.{equivalentClass, FunctionalProperty, InverseFunctionalProperty, intersectionOf, unionOf, hasValue}
 use Rattle.common.specs.Vocabulary.{allValuesFrom, someValuesFrom, disjointWith, onProperty, complementOf, propertyDisjointWith, Class}
-use Rattle.dictionary_layout.specs.Terms.{Term, term, rdf, rdfs, owl, start-terms}
+use Rattle.dictionary_layout.specs.Terms.{Term, term, rdf, rdfs, owl, start-terms, start-count, start-bytes}
 use Rattle.dictionary_layout.specs.Layout.{size}
 use Rattle.dictionary_layout.specs.Dictionary.{place-from, place-of}
 
@@ -86,7 +86,7 @@ pub blank-id : Id-is (term 1 (text "urn:_")) 0
 unfolding start-terms place-from
 blank-id = refl
 
--- a started dictionary holds thirty-one terms and 1,325 bytes
-pub start-sizes : (length start-terms ≡ 31) × (size start-terms ≡ 1325)
+-- the sizes of a started dictionary: the one place where its terms are counted
+pub start-sizes : (length start-terms ≡ start-count) × (size start-terms ≡ start-bytes)
 unfolding start-terms
 start-sizes = (refl, refl)

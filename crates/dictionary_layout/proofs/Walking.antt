@@ -100,7 +100,7 @@ from-prev : (ts : List Term) (t : Term) (i : ℕ) → 0 < i → i ≤ length ts
     → ((k : ℕ) → i ≤ k → k < length ts → getD ts k no-term ≢ t) → Walked ts t (prev ts (chain t) i)
 from-prev ts t i p l f =
     let h = prev-less ts (chain t) i p in record
-    { below = omega arith; none-behind = λ k a b. go k a b (native.Mathlib.Decide.decLt k i); in-chain = prev-chain ts (chain t) i }
+    { below = omega arith; none-behind = λ k a b. go k a b (decLt k i); in-chain = prev-chain ts (chain t) i }
   where
     go : (k : ℕ) → prev ts (chain t) i < k → k < length ts → Dec (k < i) → getD ts k no-term ≢ t
     go k a b (yes c) = λ e. prev-gap ts (chain t) i k a c (ap chain e)
@@ -115,7 +115,7 @@ pub walk-step : (ts : List Term) (t : Term) (j : ℕ) → Walked ts t j → 0 < 
     → Walked ts t (prev ts (chain (getD ts j no-term)) j)
 walk-step ts t j w p n =
     let l = w .below in subst (λ (c : ℕ). Walked ts t (prev ts c j)) (sym (w .in-chain p))
-    (from-prev ts t j p (omega arith) (λ k a b. go k b (native.Mathlib.Decide.decLt j k) a))
+    (from-prev ts t j p (omega arith) (λ k a b. go k b (decLt j k) a))
   where
     go : (k : ℕ) → k < length ts → Dec (j < k) → j ≤ k → getD ts k no-term ≢ t
     go k b (yes c) a = w .none-behind k c b

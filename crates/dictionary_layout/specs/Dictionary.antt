@@ -3,12 +3,13 @@
 use mathlib.Core.Bool.{Bool, true, false, _&&_}
 use mathlib.Core.Option.{Option, some, none}
 use mathlib.Core.List.{List, [], _∷_, _++_}
-use Prim.Native.Nat.{ℕ, zero, suc, _+_, _*_, _-_, _%_}
+use Prim.Native.Nat.{ℕ, zero, suc, _+_, _-_, _%_}
 use lib.Dec.{leb, ltb, eqb}
 use lib.ListN.{length, getD}
+use Rattle.common.specs.Sizes.{heads-width, entry-width, table-limit, arena-limit, term-limit}
 use Rattle.common.specs.Triples.{if}
 use Rattle.dictionary_layout.specs.Terms.{Term, no-term, start-terms}
-use Rattle.dictionary_layout.specs.Layout.{Dict, size, layout, decode}
+use Rattle.dictionary_layout.specs.Layout.{Dict, size, entry-at, layout, decode}
 
 -- tests of equality
 abbrev pub same-row : List ℕ → List ℕ → Bool
@@ -43,11 +44,11 @@ kind-known t = leb 1 (t .kind) && leb (t .kind) 3
 
 -- at most 4,096 bytes: else refusal 11
 abbrev pub short : Term → Bool
-short t = leb (length (t .bytes)) 4096
+short t = leb (length (t .bytes)) term-limit
 
 -- entries and arena bytes suffice for one term more: else refusal 7
 abbrev pub roomy : ℕ → ℕ → List Term → Term → Bool
-roomy tl al ts t = leb (64 + 4 * suc (length ts)) tl && leb (size ts + length (t .bytes)) al
+roomy tl al ts t = leb (entry-at (suc (length ts))) tl && leb (size ts + length (t .bytes)) al
 
 -- what a put answers: the refusal's number, the id, and the terms held afterwards
 pub record Put-answer : Type 0 where
@@ -100,11 +101,11 @@ abstract-lookup ts i = if (ltb i (length ts)) (λ _. lookup-answer 0 (term-of ts
 -- WHICH TERMS a table of tl numbers and an arena of al bytes can hold
 -- well sized: else refusal 4 at a start
 abbrev pub sized : ℕ → ℕ → Bool
-sized tl al = leb 64 tl && (eqb ((tl - 64) % 4) 0 && (leb tl (64 + 4 * 65535) && leb al 1048576))
+sized tl al = leb heads-width tl && (eqb ((tl - heads-width) % entry-width) 0 && (leb tl table-limit && leb al arena-limit))
 
 -- room for the start's terms: else refusal 7 at a start
 abbrev pub start-fits : ℕ → ℕ → Bool
-start-fits tl al = leb (64 + 4 * length start-terms) tl && leb (size start-terms) al
+start-fits tl al = leb (entry-at (length start-terms)) tl && leb (size start-terms) al
 
 -- the number of a start's refusal, or 0
 unfoldable pub start-refusal : ℕ → ℕ → ℕ

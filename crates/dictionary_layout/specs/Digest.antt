@@ -7,6 +7,10 @@ use Rattle.dictionary_layout.specs.declared.values.Digest.{Digest}
 use Rattle.dictionary_layout.specs.Terms.{Term}
 use Rattle.dictionary_layout.specs.Layout.{chain}
 
+-- how many buckets there are
+abbrev pub bucket-count : ℕ
+bucket-count = 65536
+
 -- the hash of bytes that follow what has the hash h
 unfoldable pub hash-from : ℕ → List ℕ → ℕ
 hash-from h [] = h

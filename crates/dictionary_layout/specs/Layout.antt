@@ -5,8 +5,9 @@ use mathlib.Core.List.{List, [], _∷_, _++_}
 use Prim.Native.Nat.{ℕ, zero, suc, _+_, _*_, _-_, _%_}
 use lib.Dec.{eqb}
 use lib.ListN.{length, getD, take, drop, replicate}
+use Rattle.common.specs.Sizes.{heads-width, entry-width}
 use Rattle.common.specs.Triples.{if}
-use Rattle.dictionary_layout.specs.Terms.{Term, term}
+use Rattle.dictionary_layout.specs.Terms.{Term, term, start-count}
 
 -- a dictionary's contents: the table, the arena, and the two counters, of terms and of arena bytes used
 pub record Dict : Type 0 where
@@ -24,7 +25,7 @@ sum (b ∷ bs) = b + sum bs
 
 -- a term's chain
 abbrev pub chain : Term → ℕ
-chain t = (t .kind + sum (t .bytes)) % 64
+chain t = (t .kind + sum (t .bytes)) % heads-width
 
 -- the bytes of all the terms, and how many they are
 abbrev pub all-bytes : List Term → List ℕ
@@ -63,11 +64,19 @@ unfoldable pub span : ℕ → ℕ → (ℕ → ℕ) → List ℕ
 span zero i f = []
 span (suc n) i f = f i ∷ span n (suc i) f
 
+-- where the entry of an id begins in a table; of a number of terms, the length of a table that has room for no more
+abbrev pub entry-at : ℕ → ℕ
+entry-at n = heads-width + entry-width * n
+
+-- the length of the table of a started dictionary without room for more
+abbrev pub start-table : ℕ
+start-table = entry-at start-count
+
 -- THE CONTENTS that a table of tl numbers and an arena of al bytes have when they hold these terms
 unfoldable pub layout : ℕ → ℕ → List Term → Dict
 layout tl al ts =
     dict
-    (span 64 0 (all-heads ts) ++ (all-entries ts ++ replicate (tl - (64 + 4 * length ts)) 0))
+    (span heads-width 0 (all-heads ts) ++ (all-entries ts ++ replicate (tl - entry-at (length ts)) 0))
     (all-bytes ts ++ replicate (al - size ts) 0)
     (length ts)
     (size ts)
@@ -75,8 +84,8 @@ layout tl al ts =
 -- the first n terms that entries name in an arena
 unfoldable pub read : ℕ → List ℕ → List ℕ → List Term
 read zero es a = []
-read (suc n) es a = term (getD es 2 0) (take (getD es 1 0) (drop (getD es 0 0) a)) ∷ read n (drop 4 es) a
+read (suc n) es a = term (getD es 2 0) (take (getD es 1 0) (drop (getD es 0 0) a)) ∷ read n (drop entry-width es) a
 
 -- the terms that the contents name
 unfoldable pub decode : Dict → List Term
-decode d = read (d .terms) (drop 64 (d .table)) (d .arena)
+decode d = read (d .terms) (drop heads-width (d .table)) (d .arena)

@@ -27,7 +27,7 @@ rdfs name = term 1 (text "http://www.w3.org/2000/01/rdf-schema#" ++ text name)
 abbrev pub owl : String → Term
 owl name = term 1 (text "http://www.w3.org/2002/07/owl#" ++ text name)
 
--- what a started dictionary holds: ids 0 to 30
+-- what a started dictionary holds, by id
 unfoldable pub start-terms : List Term
 start-terms =
     term 1 (text "urn:_") ∷
@@ -39,6 +39,13 @@ start-terms =
     owl "intersectionOf" ∷ owl "unionOf" ∷ owl "hasValue" ∷ owl "allValuesFrom" ∷ owl "someValuesFrom" ∷
     owl "disjointWith" ∷ owl "onProperty" ∷ owl "complementOf" ∷ owl "propertyDisjointWith" ∷ owl "Class" ∷
     []
+
+-- how many terms those are, and how many bytes they have: proofs/Vocabulary.antt, `start-sizes`
+abbrev pub start-count : ℕ
+start-count = 31
+
+abbrev pub start-bytes : ℕ
+start-bytes = 1325
 
 -- the three terms that a run puts, in this order
 abbrev pub property-term : Term

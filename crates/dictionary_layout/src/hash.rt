@@ -1,10 +1,15 @@
 // A term's chain and bucket.
 use crate::values::Digest;
+use common::HEADS_WIDTH;
 ghost use mathlib.Core.Path.{_≡_};
 ghost use Prim.Native.Nat.{_≤_};
 ghost use lib.ListN.{length};
+ghost use Rattle.common.specs.Sizes.{term-limit};
 ghost use Rattle.dictionary_layout.specs.Terms.{term};
 ghost use Rattle.dictionary_layout.specs.Digest.{digest-of};
+
+// A chain for each head of a table.
+const CHAIN_COUNT: u64 = HEADS_WIDTH as u64;
 
 fn wide(x: u8) -> u64
     ensures { λ r. ⌜ r ≡ x ⌝ }
@@ -13,7 +18,7 @@ fn wide(x: u8) -> u64
 }
 
 pub fn digest(kind: u32, bytes: &[u8]) -> Digest
-    requires { ⌜ length (now bytes) ≤ 4096 ⌝ }
+    requires { ⌜ length (now bytes) ≤ term-limit ⌝ }
     ensures { λ r. ⌜ r ≡ digest-of (term kind (now (bytes .entry))) ⌝ }
 {
     let mut sum = kind as u64;
@@ -26,7 +31,7 @@ pub fn digest(kind: u32, bytes: &[u8]) -> Digest
         i += 1;
     }
     Digest {
-        chain: (sum % 64) as usize,
+        chain: (sum % CHAIN_COUNT) as usize,
         bucket: (hash / 65536) as usize,
     }
 }

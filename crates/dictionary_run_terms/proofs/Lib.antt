@@ -1,1 +1,4 @@
+pub mod Places
+pub mod Counting
+pub mod Fitting
 pub mod Running

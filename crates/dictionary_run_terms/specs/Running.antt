@@ -5,6 +5,7 @@ use mathlib.Core.Option.{Option, some, none}
 use Prim.Native.Nat.{ℕ, _+_, _≤_}
 use lib.Dec.{T}
 use lib.ListN.{length}
+use Rattle.common.specs.Sizes.{term-limit}
 use Rattle.dictionary_layout.specs.declared.values.Counters.{Counters}
 use Rattle.dictionary_layout.specs.Terms.{Term}
 use Rattle.dictionary_layout.specs.Layout.{Dict}
@@ -21,7 +22,7 @@ counted ts t c = count-at (place-of t ts) t c
 -- what counting needs: an IRI that a term may have, and counters that do not overflow
 pub record Countable (d : Dict) (iri : List ℕ) (sum : Counters) : Type 0 where
   pub unbroken : T (valid d)
-  pub short : length iri ≤ 4096
+  pub short : length iri ≤ term-limit
   pub terms : sum .terms ≤ 100000
   pub used : sum .used ≤ 2000000
 

@@ -2,77 +2,60 @@
 -- Assumes nothing.
 use mathlib.Core.Path.{_≡_, sym, _∙_, ap, subst}
 use mathlib.Core.Logic.{_≢_}
-use mathlib.Core.Bool.{true, false}
+use mathlib.Core.Bool.{Bool, true, false}
 use mathlib.Core.List.{List}
 use Prim.Native.Nat.{ℕ, _+_, _-_, _≤_, _<_}
 use native.Mathlib.Omega.{arith}
 use native.Mathlib.Decide.{decLt, ℕ-discrete}
 use lib.ListN.{length, getD, set, replicate, length-set}
 use lib.Seq.{getD-set-same, getD-set-other}
+use Rattle.common.specs.Last.{Last}
+use Rattle.common.proofs.Last.{last-is, last-none, last-more, last-new}
 use Rattle.dictionary_layout.specs.Terms.{Term}
+use Rattle.dictionary_layout.specs.Dictionary.{same-term}
 use Rattle.dictionary_entries.specs.Entries.{entry-term, Entry-fits}
-use Rattle.dictionary_layout.specs.Digest.{bucket}
-use Rattle.dictionary_valid.specs.Scanning.{Last, bucket-of, Hashed, linked, Seen, Seekable}
+use Rattle.dictionary_layout.specs.Digest.{bucket, bucket-count}
+use Rattle.dictionary_valid.specs.Scanning.{bucket-of, Hashed, linked, Seen, Seekable, term-hash-length}
+use Rattle.dictionary_layout.proofs.Choice.{true-false}
 use Rattle.dictionary_layout.proofs.Rows.{zeros-at}
-
--- LAST
-module _ (key : ℕ → ℕ) where
-  last-is : {x m v w : ℕ} → w ≡ v → Last key x m v → Last key x m w
-  last-is {x} {m} e h = subst (Last key x m) (sym e) h
-
-  -- one more, of another key
-  last-more : (x m v : ℕ) → key m ≢ x → Last key x m v → Last key x (m + 1) v
-  last-more x m v f h = record { below = omega (arith, h .below); here = h .here; none = λ j a b e. go j a b e (ℕ-discrete j m) }
-    where
-      go : (j : ℕ) → v ≤ j → j < m + 1 → key j ≡ x → Dec (j ≡ m) → ⊥
-      go j a b e (yes q) = f (subst (λ (k : ℕ). key k ≡ x) q e)
-      go j a b e (no q) = h .none j a (omega arith) e
-
-  -- one more, of this key
-  last-new : (x m : ℕ) → key m ≡ x → Last key x (m + 1) (m + 1)
-  last-new x m e =
-      record {
-        below = omega arith;
-        here = λ _. let q : m
-            ≡ m + 1 - 1 = omega arith in subst (λ (k : ℕ). key k ≡ x) q e;
-        none = λ j a b _. omega arith;
-      }
+use Rattle.dictionary_entries.proofs.Searching.{same-term-found, other-term-found}
 
 -- no entry yet
-pub hashed-none : {table arena hash : List ℕ} → length hash ≡ 131072 → hash ≡ replicate 131072 0 → Hashed table arena hash 0
+pub hashed-none : {table arena hash : List ℕ} → length hash ≡ term-hash-length → hash ≡ replicate term-hash-length 0
+    → Hashed table arena hash 0
 hashed-none {table} {arena} {hash} l z = record {
   wide = l;
-  heads = λ x h. last-is (bucket-of table arena) (ap (λ (w : List ℕ). getD w x 0) z ∙ zeros-at 131072 x)
-      (record { below = omega arith; here = λ p. absurd (omega arith); none = λ j a b e. omega arith });
+  heads = λ x h. last-is (bucket-of table arena) (ap (λ (w : List ℕ). getD w x 0) z ∙ zeros-at term-hash-length x)
+      (last-none (bucket-of table arena) x);
   links = λ j h. absurd (omega arith);
 }
 
 -- ONE ENTRY MORE
-module _ {table arena hash : List ℕ} {x k : ℕ} (h : Hashed table arena hash k) (xl : x < 65536) (kl : k < 65536) where
+module _ {table arena hash : List ℕ} {x k : ℕ} (h : Hashed table arena hash k) (xl : x < bucket-count) (kl : k < bucket-count) where
   abbrev half : List ℕ
-  half = set hash (65536 + k) (getD hash x 0)
+  half = set hash (bucket-count + k) (getD hash x 0)
 
   abbrev key : ℕ → ℕ
   key = bucket-of table arena
 
-  half-long : length half ≡ 131072
-  half-long = length-set hash (65536 + k) (getD hash x 0) ∙ h .wide
+  half-long : length half ≡ term-hash-length
+  half-long = length-set hash (bucket-count + k) (getD hash x 0) ∙ h .wide
 
   at-head : getD (linked hash x k) x 0 ≡ k + 1
   at-head = getD-set-same half x (k + 1) 0 (omega (arith, half-long))
 
-  other-head : (y : ℕ) → y < 65536 → y ≢ x → getD (linked hash x k) y 0 ≡ getD hash y 0
-  other-head y l n = getD-set-other half x y (k + 1) 0 n ∙ getD-set-other hash (65536 + k) y (getD hash x 0) 0 (omega arith)
+  other-head : (y : ℕ) → y < bucket-count → y ≢ x → getD (linked hash x k) y 0 ≡ getD hash y 0
+  other-head y l n = getD-set-other half x y (k + 1) 0 n ∙ getD-set-other hash (bucket-count + k) y (getD hash x 0) 0 (omega arith)
 
-  at-link : getD (linked hash x k) (65536 + k) 0 ≡ getD hash x 0
+  at-link : getD (linked hash x k) (bucket-count + k) 0 ≡ getD hash x 0
   at-link =
-      getD-set-other half x (65536 + k) (k + 1) 0 (omega arith)
-      ∙ getD-set-same hash (65536 + k) (getD hash x 0) 0 (omega (arith, h .wide))
+      getD-set-other half x (bucket-count + k) (k + 1) 0 (omega arith)
+      ∙ getD-set-same hash (bucket-count + k) (getD hash x 0) 0 (omega (arith, h .wide))
 
-  other-link : (j : ℕ) → j < k → getD (linked hash x k) (65536 + j) 0 ≡ getD hash (65536 + j) 0
+  other-link : (j : ℕ) → j < k → getD (linked hash x k) (bucket-count + j) 0 ≡ getD hash (bucket-count + j) 0
   other-link j l =
-      getD-set-other half x (65536 + j) (k + 1) 0 (omega arith)
-      ∙ getD-set-other hash (65536 + k) (65536 + j) (getD hash x 0) 0 (omega arith)
+      getD-set-other half x (bucket-count + j) (k + 1) 0 (omega arith)
+      ∙ getD-set-other hash (bucket-count + k) (bucket-count + j) (getD hash x 0) 0 (omega arith)
 
   pub hashed-more : bucket-of table arena k ≡ x → Hashed table arena (linked hash x k) (k + 1)
   hashed-more e = record {
@@ -81,13 +64,13 @@ module _ {table arena hash : List ℕ} {x k : ℕ} (h : Hashed table arena hash 
     links = λ j l. link j l (ℕ-discrete j k);
   }
     where
-      at : (y : ℕ) → y < 65536 → Dec (y ≡ x) → Last key y (k + 1) (getD (linked hash x k) y 0)
+      at : (y : ℕ) → y < bucket-count → Dec (y ≡ x) → Last key y (k + 1) (getD (linked hash x k) y 0)
       at y l (yes q) = last-is key (ap (λ (z : ℕ). getD (linked hash x k) z 0) q ∙ at-head) (last-new key y k (e ∙ sym q))
       at y l (no n) = last-is key (other-head y l n) (last-more key y k (getD hash y 0) (λ w. n (sym w ∙ e)) (h .heads y l))
 
-      link : (j : ℕ) → j < k + 1 → Dec (j ≡ k) → Last key (key j) j (getD (linked hash x k) (65536 + j) 0)
+      link : (j : ℕ) → j < k + 1 → Dec (j ≡ k) → Last key (key j) j (getD (linked hash x k) (bucket-count + j) 0)
       link j l (yes q) =
-          subst (λ (i : ℕ). Last key (key i) i (getD (linked hash x k) (65536 + i) 0)) (sym q)
+          subst (λ (i : ℕ). Last key (key i) i (getD (linked hash x k) (bucket-count + i) 0)) (sym q)
           (last-is key at-link (subst (λ (z : ℕ). Last key z k (getD hash x 0)) (sym e) (h .heads x xl)))
       link j l (no n) = last-is key (other-link j (omega arith)) (h .links j (omega arith))
 
@@ -105,36 +88,44 @@ module _ {table arena hash : List ℕ} {k : ℕ} {t : Term} {x : ℕ} (s : Seeka
       record { below = l .below; here = λ p. l .here p ∙ s .key; done = λ j a b e. l .none j a b (ap bucket e ∙ sym (s .key)) }
 
   module _ {cur : ℕ} (w : Seeking table arena k t cur) (p : cur ≢ 0) where
-    link : Last (bucket-of table arena) (bucket-of table arena (cur - 1)) (cur - 1) (getD hash (65536 + (cur - 1)) 0)
+    link : Last (bucket-of table arena) (bucket-of table arena (cur - 1)) (cur - 1) (getD hash (bucket-count + (cur - 1)) 0)
     link = s .hashed .links (cur - 1) (omega (arith, w .below))
 
     pub seek-fits : Entry-fits table arena (cur - 1)
     seek-fits = s .fits (cur - 1) (omega (arith, w .below))
 
-    pub seek-less : getD hash (65536 + (cur - 1)) 0 < cur
+    pub seek-less : getD hash (bucket-count + (cur - 1)) 0 < cur
     seek-less = omega (arith, link .below)
 
-    pub seek-more : entry-term table arena (cur - 1) ≢ t → Seeking table arena k t (getD hash (65536 + (cur - 1)) 0)
-    seek-more n =
+    -- another term is there
+    pub seek-more : {r : Bool} → r ≡ same-term (entry-term table arena (cur - 1)) t → r ≡ false
+        → Seeking table arena k t (getD hash (bucket-count + (cur - 1)) 0)
+    seek-more g f =
         let q : 0 < cur = omega arith in
         let e = w .here q in
         record {
           below = omega (arith, link .below, w .below);
           here = λ r. link .here r
               ∙ e;
-          done = λ j a b. go j a b (native.Mathlib.Decide.decLt j cur);
+          done = λ j a b. go j a b (decLt j cur);
         }
       where
-        last : (j : ℕ) → getD hash (65536 + (cur - 1)) 0 ≤ j → j < cur → Dec (j ≡ cur - 1) → entry-term table arena j ≢ t
-        last j a b (yes e) = subst (λ (i : ℕ). entry-term table arena i ≢ t) (sym e) n
+        other : entry-term table arena (cur - 1) ≢ t
+        other = other-term-found (entry-term table arena (cur - 1)) t (sym f ∙ g)
+
+        last : (j : ℕ) → getD hash (bucket-count + (cur - 1)) 0 ≤ j → j < cur → Dec (j ≡ cur - 1) → entry-term table arena j ≢ t
+        last j a b (yes e) = subst (λ (i : ℕ). entry-term table arena i ≢ t) (sym e) other
         last j a b (no m) = λ e. link .none j a (omega arith) (ap bucket e ∙ sym (w .here (omega arith)))
 
-        go : (j : ℕ) → getD hash (65536 + (cur - 1)) 0 ≤ j → j < k → Dec (j < cur) → entry-term table arena j ≢ t
+        go : (j : ℕ) → getD hash (bucket-count + (cur - 1)) 0 ≤ j → j < k → Dec (j < cur) → entry-term table arena j ≢ t
         go j a b (yes l) = last j a l (ℕ-discrete j (cur - 1))
         go j a b (no l) = w .done j (omega arith) b
 
-    pub seek-hit : entry-term table arena (cur - 1) ≡ t → Seen table arena k t true
-    seek-hit e = record { yes = λ _. (cur - 1, omega (arith, w .below), e); no = λ q. let z : _≡_ {A = ℕ} 0 1 = cc in absurd (omega arith) }
+    pub seek-hit : {r : Bool} → r ≡ same-term (entry-term table arena (cur - 1)) t → r ≡ true → Seen table arena k t true
+    seek-hit g f = record {
+      yes = λ _. (cur - 1, omega (arith, w .below), same-term-found (entry-term table arena (cur - 1)) t (sym f ∙ g));
+      no = λ q. true-false q;
+    }
 
   pub seek-end : {cur : ℕ} → Seeking table arena k t cur → cur ≡ 0 → Seen table arena k t false
-  seek-end w e = record { yes = λ q. let z : _≡_ {A = ℕ} 0 1 = cc in absurd (omega arith); no = λ _ j l. w .done j (omega arith) l }
+  seek-end w e = record { yes = λ q. true-false (sym q); no = λ _ j l. w .done j (omega arith) l }

@@ -7,8 +7,9 @@ use native.Mathlib.Numerals.{add-one}
 use native.Mathlib.Nat.{not-suc-le-zero}
 use lib.ListN.{length, getD, take, drop, length-drop}
 use lib.Seq.{take-add, drop-cons, getD-drop}
+use Rattle.common.specs.Sizes.{heads-width}
 use Rattle.dictionary_layout.specs.Terms.{Term, term}
-use Rattle.dictionary_layout.specs.Layout.{read}
+use Rattle.dictionary_layout.specs.Layout.{read, entry-at}
 use Rattle.dictionary_layout.specs.Dictionary.{term-of}
 use Rattle.dictionary_entries.specs.Entries.{start-of, length-of, kind-of, next-of, entry-term}
 use Rattle.dictionary_valid.specs.Scanning.{named}
@@ -54,47 +55,50 @@ read-take (suc k) (suc n) es a h =
 
 -- IN A TABLE
 module _ (table arena : List ℕ) where
-  table-term : (k : ℕ) → row-term (drop 64 table) arena k ≡ entry-term table arena k
-  table-term k = λ i. term (e 2 i) (take (e 1 i) (drop (getD-drop 64 table (4 * k) 0 i) arena))
+  table-term : (k : ℕ) → row-term (drop heads-width table) arena k ≡ entry-term table arena k
+  table-term k = λ i. term (e 2 i) (take (e 1 i) (drop (getD-drop heads-width table (4 * k) 0 i) arena))
     where
-      e : (r : ℕ) → getD (drop 64 table) (4 * k + r) 0 ≡ getD table (64 + 4 * k + r) 0
-      e r = let q : 64 + (4 * k + r) ≡ 64 + 4 * k + r = omega arith in getD-drop 64 table (4 * k + r) 0 ∙ ap (λ (x : ℕ). getD table x 0) q
+      e : (r : ℕ) → getD (drop heads-width table) (4 * k + r) 0 ≡ getD table (entry-at k + r) 0
+      e r =
+          let q : 64 + (4 * k + r) ≡ entry-at k + r = omega arith in getD-drop heads-width table (4 * k + r) 0
+          ∙ ap (λ (x : ℕ). getD table x 0) q
 
   pub named-length : (n : ℕ) → length (named table arena n) ≡ n
-  named-length n = read-length n (drop 64 table) arena
+  named-length n = read-length n (drop heads-width table) arena
 
   pub named-snoc : (n : ℕ) → named table arena (n + 1) ≡ named table arena n ++ (entry-term table arena n ∷ [])
   named-snoc n =
-      ap (named table arena) (add-one n) ∙ (read-snoc n (drop 64 table) arena ∙ ap
+      ap (named table arena) (add-one n) ∙ (read-snoc n (drop heads-width table) arena ∙ ap
       (λ (t : Term). named table arena n ++ (t ∷ [])) (table-term n))
 
   pub named-at : (n k : ℕ) → k < n → term-of (named table arena n) k ≡ entry-term table arena k
-  named-at n k h = read-at n (drop 64 table) arena k h ∙ table-term k
+  named-at n k h = read-at n (drop heads-width table) arena k h ∙ table-term k
 
   pub named-take : (k n : ℕ) → k ≤ n → take k (named table arena n) ≡ named table arena k
-  named-take k n h = read-take k n (drop 64 table) arena h
+  named-take k n h = read-take k n (drop heads-width table) arena h
 
   -- the row of entries grows by four numbers
-  pub entry-row : (k : ℕ) → 64 + 4 * (k + 1) ≤ length table
-      → take (4 * (k + 1)) (drop 64 table) ≡ take (4 * k) (drop 64 table)
+  pub entry-row : (k : ℕ) → entry-at (k + 1) ≤ length table
+      → take (4 * (k + 1)) (drop heads-width table) ≡ take (4 * k) (drop heads-width table)
       ++ four (start-of table k) (length-of table k) (kind-of table k) (next-of table k)
   entry-row k h =
       let q : 4 * (k + 1) ≡ 4 * k + 4 = omega arith in
       ap (λ (n : ℕ). take n es) q ∙ (take-add (4 * k) 4 es ∙ ap (λ (l : List ℕ). take (4 * k) es ++ l) (ap (take 4) cells))
     where
       es : List ℕ
-      es = drop 64 table
+      es = drop heads-width table
 
       long : 4 * k + 4 ≤ length es
-      long = omega (arith, length-drop 64 table)
+      long = omega (arith, length-drop heads-width table)
 
       cell : (j i : ℕ) → 64 + j ≡ i → j < length es → drop j es ≡ getD table i 0 ∷ drop (suc j) es
-      cell j i q l = drop-cons es j 0 l ∙ ap (λ (x : ℕ). x ∷ drop (suc j) es) (getD-drop 64 table j 0 ∙ ap (λ (x : ℕ). getD table x 0) q)
+      cell j i q l =
+          drop-cons es j 0 l ∙ ap (λ (x : ℕ). x ∷ drop (suc j) es) (getD-drop heads-width table j 0 ∙ ap (λ (x : ℕ). getD table x 0) q)
 
       cells : drop (4 * k) es ≡ start-of table k ∷ length-of table k ∷ kind-of table k ∷ next-of table k
           ∷ drop (suc (suc (suc (suc (4 * k))))) es
       cells =
-          cell (4 * k) (64 + 4 * k) refl (omega (arith, long))
-          ∙ ap (λ (l : List ℕ). start-of table k ∷ l) (cell (suc (4 * k)) (64 + 4 * k + 1) (omega arith) (omega (arith, long))
-          ∙ ap (λ (l : List ℕ). length-of table k ∷ l) (cell (suc (suc (4 * k))) (64 + 4 * k + 2) (omega arith) (omega (arith, long))
-          ∙ ap (λ (l : List ℕ). kind-of table k ∷ l) (cell (suc (suc (suc (4 * k)))) (64 + 4 * k + 3) (omega arith) (omega (arith, long)))))
+          cell (4 * k) (entry-at k) refl (omega (arith, long))
+          ∙ ap (λ (l : List ℕ). start-of table k ∷ l) (cell (suc (4 * k)) (entry-at k + 1) (omega arith) (omega (arith, long))
+          ∙ ap (λ (l : List ℕ). length-of table k ∷ l) (cell (suc (suc (4 * k))) (entry-at k + 2) (omega arith) (omega (arith, long))
+          ∙ ap (λ (l : List ℕ). kind-of table k ∷ l) (cell (suc (suc (suc (4 * k)))) (entry-at k + 3) (omega arith) (omega (arith, long)))))

@@ -3,21 +3,22 @@ use mathlib.Core.Path.{_≡_, sym, _∙_, ap, subst}
 use mathlib.Core.Logic.{_≢_}
 use mathlib.Core.Option.{some}
 use mathlib.Core.List.{List}
-use Prim.Native.Nat.{ℕ, _+_, _≤_, _<_}
+use Prim.Native.Nat.{ℕ, _≤_, _<_}
 use native.Mathlib.Omega.{arith}
-use lib.Dec.{T, leb, leb→le}
+use lib.Dec.{T, leb→le}
 use lib.ListN.{length, getD, take, drop, length-take, length-drop}
 use lib.Seq.{getD-take}
-use Rattle.common.proofs.Lists.{and→}
+use Rattle.common.specs.Sizes.{term-limit, heads-width}
 use Rattle.dictionary_layout.specs.Terms.{Term, no-term}
 use Rattle.dictionary_layout.specs.Layout.{Dict, dict, chain, size, heads, decode}
 use Rattle.dictionary_layout.specs.Dictionary.{place-of, kind-known, short, term-of, valid}
-use Rattle.dictionary_entries.specs.Entries.{start-of, length-of, kind-of, next-of, entry-term}
-use Rattle.dictionary_valid.specs.Scanning.{named, Scanned}
+use Rattle.dictionary_entries.specs.Entries.{start-of, length-of, next-of, entry-term}
+use Rattle.dictionary_valid.specs.Scanning.{named, Scanned, Follows}
 use Rattle.dictionary_layout.proofs.Chains.{prev, all-heads-prev, prev-same}
 use Rattle.dictionary_layout.proofs.Distinct.{holds-well, at-in}
 use Rattle.dictionary_entries.proofs.Reading.{held, count, entry, entry-names, entry-fits}
 use Rattle.dictionary_layout.proofs.Walking.{holds-fresh, index-of}
+use Rattle.dictionary_entries.proofs.Putting.{kind-facts}
 use Rattle.dictionary_valid.proofs.Naming.{named-length, named-take}
 use Rattle.dictionary_valid.proofs.Scanning.{scanned-head}
 
@@ -39,35 +40,36 @@ module _ {table arena heads : List ℕ} {k at : ℕ} (s : Scanned table arena he
   names : t ≡ term-of (decode d) k
   names = entry-names d v k l
 
-  -- bytes follow each other without gaps
-  pub valid-start : start-of table k ≡ at
-  valid-start = entry d v k l .start ∙ (ap size before ∙ sym (s .used))
-
-  pub valid-part : at + length-of table k ≤ length arena
-  valid-part = omega (arith, entry-fits d v k l .part, valid-start)
+  start : start-of table k ≡ at
+  start = entry d v k l .start ∙ (ap size before ∙ sym (s .used))
 
   well : T (kind-known t) × T (short t)
   well =
       subst (λ (x : Term). T (kind-known x) × T (short x)) (sym names)
       (holds-well (length table) (length arena) (decode d) (held d v) (term-of (decode d) k) (at-in (decode d) k long))
 
-  pub valid-short : length-of table k ≤ 4096
-  valid-short =
-      omega (
-        arith,
-        leb→le (length (t .bytes)) 4096 (well .1),
-        length-take (length-of table k) (drop (start-of table k) arena),
-        length-drop (start-of table k) arena,
-        entry-fits d v k l .part,
-      )
-
-  pub valid-kind : (1 ≤ kind-of table k) × (kind-of table k ≤ 3)
-  valid-kind =
-      let (a, b) = and→ (leb 1 (kind-of table k)) (leb (kind-of table k) 3) (well .0) in
-      (leb→le 1 (kind-of table k) a, leb→le (kind-of table k) 3 b)
+  -- its bytes begin where those before it end, and its length and its kind are a term's
+  pub valid-follows : Follows table arena k at
+  valid-follows =
+      let fits = entry-fits d v k l .part in
+      let (low, high) = kind-facts t (well .0) in
+      let bytes = drop (start-of table k) arena in
+      record {
+        start = start;
+        short = omega (
+          arith,
+          leb→le (length (t .bytes)) term-limit (well .1),
+          length-take (length-of table k) bytes,
+          length-drop (start-of table k) arena,
+          fits,
+        );
+        part = omega (arith, fits, start);
+        low = low;
+        high = high;
+      }
 
   -- the next id is the chain's head so far
-  pub valid-next : 64 ≤ length heads → next-of table k ≡ getD heads (chain t) 0
+  pub valid-next : heads-width ≤ length heads → next-of table k ≡ getD heads (chain t) 0
   valid-next r =
       entry d v k l .next
       ∙ (ap (λ (x : Term). prev (decode d) (chain x) k) (sym names)

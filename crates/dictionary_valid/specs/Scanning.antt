@@ -3,44 +3,45 @@
 use mathlib.Core.Path.{_≡_}
 use mathlib.Core.Bool.{Bool, true, false}
 use mathlib.Core.List.{List}
-use Prim.Native.Nat.{ℕ, _+_, _*_, _-_, _≤_, _<_}
+use Prim.Native.Nat.{ℕ, _+_, _*_, _≤_, _<_}
 use lib.Dec.{T}
 use lib.ListN.{length, getD, take, drop, set}
-use Rattle.dictionary_layout.specs.Terms.{Term, start-terms}
-use Rattle.dictionary_layout.specs.Layout.{dict, size, all-bytes, all-heads, all-entries, span, layout, read}
+use Rattle.common.specs.Last.{Last}
+use Rattle.common.specs.Sizes.{heads-width, entry-width, entry-limit, term-limit}
+use Rattle.dictionary_layout.specs.Terms.{Term, start-terms, start-count, start-bytes}
+use Rattle.dictionary_layout.specs.Layout.{dict, size, all-bytes, all-heads, all-entries, span, entry-at, start-table, layout, read}
 use Rattle.dictionary_layout.specs.Dictionary.{start-refusal, holdable, valid}
-use Rattle.dictionary_entries.specs.Entries.{entry-term, Entry-fits}
-use Rattle.dictionary_layout.specs.Digest.{bucket}
+use Rattle.dictionary_entries.specs.Entries.{start-of, length-of, kind-of, entry-term, Entry-fits}
+use Rattle.dictionary_layout.specs.Digest.{bucket-count, bucket}
 
 -- the terms that the first n entries name
 abbrev pub named : List ℕ → List ℕ → ℕ → List Term
-named table arena n = read n (drop 64 table) arena
+named table arena n = read n (drop heads-width table) arena
 
--- the first k entries are as puts leave them, their bytes are the first `at` of the arena, and 64 numbers are the chains' heads so far
+-- the first k entries are as puts leave them, their bytes are the first `at` of the arena, and `heads` begins with the chains' heads so far
 pub record Scanned (table arena heads : List ℕ) (k at : ℕ) : Type 0 where
   pub holds : T (holdable (length table) (length arena) (named table arena k))
-  pub entries : take (4 * k) (drop 64 table) ≡ all-entries (named table arena k)
+  pub entries : take (entry-width * k) (drop heads-width table) ≡ all-entries (named table arena k)
   pub bytes : take at arena ≡ all-bytes (named table arena k)
   pub used : at ≡ size (named table arena k)
-  pub chains : take 64 heads ≡ span 64 0 (all-heads (named table arena k))
+  pub chains : take heads-width heads ≡ span heads-width 0 (all-heads (named table arena k))
 
--- v is one more than the greatest j below m whose key is x, and 0 where there is none
-pub record Last (key : ℕ → ℕ) (x m v : ℕ) : Type 0 where
-  pub below : v ≤ m
-  pub here : 0 < v → key (v - 1) ≡ x
-  pub none : (j : ℕ) → v ≤ j → j < m → key j ≡ x → ⊥
-
+-- the bucket of the term that an entry names
 abbrev pub bucket-of : List ℕ → List ℕ → ℕ → ℕ
 bucket-of table arena j = bucket (entry-term table arena j)
 
+-- the length of the hash: a head for each bucket, and a link for each entry
+abbrev pub term-hash-length : ℕ
+term-hash-length = bucket-count + bucket-count
+
 -- the first k entries by their buckets: a head for each bucket, and behind the heads a link for each entry
 pub record Hashed (table arena hash : List ℕ) (k : ℕ) : Type 0 where
-  pub wide : length hash ≡ 131072
-  pub heads : (x : ℕ) → x < 65536 → Last (bucket-of table arena) x k (getD hash x 0)
-  pub links : (j : ℕ) → j < k → Last (bucket-of table arena) (bucket-of table arena j) j (getD hash (65536 + j) 0)
+  pub wide : length hash ≡ term-hash-length
+  pub heads : (x : ℕ) → x < bucket-count → Last (bucket-of table arena) x k (getD hash x 0)
+  pub links : (j : ℕ) → j < k → Last (bucket-of table arena) (bucket-of table arena j) j (getD hash (bucket-count + j) 0)
 
 abbrev pub linked : List ℕ → ℕ → ℕ → List ℕ
-linked hash x k = set (set hash (65536 + k) (getD hash x 0)) x (k + 1)
+linked hash x k = set (set hash (bucket-count + k) (getD hash x 0)) x (k + 1)
 
 -- whether one of the first k entries names the term
 pub record Seen (table arena : List ℕ) (k : ℕ) (t : Term) (r : Bool) : Type 0 where
@@ -51,19 +52,32 @@ pub record Seen (table arena : List ℕ) (k : ℕ) (t : Term) (r : Bool) : Type 
 pub record Seekable (table arena hash : List ℕ) (k : ℕ) (t : Term) (x : ℕ) : Type 0 where
   pub hashed : Hashed table arena hash k
   pub fits : (j : ℕ) → j < k → Entry-fits table arena j
-  pub few : k ≤ 65535
+  pub few : k ≤ entry-limit
   pub key : x ≡ bucket t
-  pub below : x < 65536
+  pub below : x < bucket-count
 
 -- the first k entries were scanned and hashed, and there is one more
 pub record Scanning (table arena heads hash : List ℕ) (k at : ℕ) : Type 0 where
   pub scanned : Scanned table arena heads k at
   pub hashed : Hashed table arena hash k
-  pub entry : 64 + 4 * (k + 1) ≤ length table
+  pub entry : entry-at (k + 1) ≤ length table
 
 -- no dictionary has this table and arena, and n terms
 abbrev pub Broken : List ℕ → List ℕ → ℕ → Type 0
 Broken table arena n = (used : ℕ) → T (valid (dict table arena n used)) → ⊥
+
+-- r decides whether a fact holds
+pub record Decides (P : Type 0) (r : Bool) : Type 0 where
+  pub yes : r ≡ true → P
+  pub no : r ≡ false → P → ⊥
+
+-- the numbers of entry k are those of a term whose bytes begin at a place of the arena
+pub record Follows (table arena : List ℕ) (k at : ℕ) : Type 0 where
+  pub start : start-of table k ≡ at
+  pub short : length-of table k ≤ term-limit
+  pub part : at + length-of table k ≤ length arena
+  pub low : 1 ≤ kind-of table k
+  pub high : kind-of table k ≤ 3
 
 -- what one entry more comes to
 pub record Checked-entry (table arena heads hash : List ℕ) (k : ℕ) (ok : Bool) (end : ℕ) : Type 0 where
@@ -77,19 +91,19 @@ pub record Checked-all (table arena heads : List ℕ) (n : ℕ) (ok : Bool) (end
 
 -- the start's entries were scanned and hashed
 pub record Scannable (table arena heads hash : List ℕ) (n : ℕ) : Type 0 where
-  pub scanned : Scanned table arena heads 31 1325
-  pub hashed : Hashed table arena hash 31
-  pub some : 31 ≤ n
-  pub entries : 64 + 4 * n ≤ length table
-  pub room : 64 ≤ length heads
+  pub scanned : Scanned table arena heads start-count start-bytes
+  pub hashed : Hashed table arena hash start-count
+  pub some : start-count ≤ n
+  pub entries : entry-at n ≤ length table
+  pub room : heads-width ≤ length heads
 
 -- a table and an arena in which a start is accepted, and a fresh dictionary without room for more
 pub record Fresh-start (table arena fresh iris : List ℕ) : Type 0 where
   pub accepted : start-refusal (length table) (length arena) ≡ 0
-  pub entries : fresh ≡ layout 188 1325 start-terms .table
-  pub bytes : iris ≡ layout 188 1325 start-terms .arena
+  pub entries : fresh ≡ layout start-table start-bytes start-terms .table
+  pub bytes : iris ≡ layout start-table start-bytes start-terms .arena
 
 -- whether table and arena begin as a fresh dictionary does
 pub record Begins (table arena fresh : List ℕ) (r : Bool) : Type 0 where
-  pub yes : r ≡ true → Scanned table arena fresh 31 1325
+  pub yes : r ≡ true → Scanned table arena fresh start-count start-bytes
   pub no : r ≡ false → (n : ℕ) → Broken table arena n

@@ -1,26 +1,39 @@
 // The test for a broken dictionary. It goes over the table and the arena once: the entries are scanned from the first, as if each term
 // were put again, and a hash of the terms tells whether one came before.
+use common::ENTRY_WIDTH;
+use common::HEADS_WIDTH;
+use common::TERM_LIMIT;
 use dictionary_entries::entry::names;
 use dictionary_entries::initial::enter_all;
-use dictionary_entries::initial::refusal;
+use dictionary_entries::initial::start_refusal;
+use dictionary_layout::BUCKET_COUNT;
 use dictionary_layout::Counters;
+use dictionary_layout::START_BYTES;
+use dictionary_layout::START_COUNT;
+use dictionary_layout::START_TABLE;
 use dictionary_layout::bytes::same_bytes;
 use dictionary_layout::bytes::same_numbers;
 use dictionary_layout::bytes::zero_bytes;
 use dictionary_layout::bytes::zero_numbers;
 use dictionary_layout::hash::digest;
 ghost use mathlib.Core.Path.{_≡_};
-ghost use mathlib.Core.Bool.{true, false};
-ghost use Prim.Native.Nat.{_+_, _*_, _≤_, _<_};
+ghost use mathlib.Core.Bool.{false};
+ghost use Prim.Native.Nat.{_+_, _≤_, _<_};
 ghost use lib.ListN.{length, replicate};
-ghost use Rattle.dictionary_layout.specs.Terms.{term};
+ghost use Rattle.common.specs.Sizes.{heads-width};
+ghost use Rattle.dictionary_layout.specs.Terms.{term, start-count, start-bytes};
+ghost use Rattle.dictionary_layout.specs.Layout.{entry-at};
+ghost use Rattle.dictionary_layout.specs.Digest.{bucket-count};
 ghost use Rattle.dictionary_layout.specs.Dictionary.{valid};
 ghost use Rattle.dictionary_layout.specs.Values.{contents};
-ghost use Rattle.dictionary_valid.specs.Scanning.{Scanned, Hashed, Seen, Seekable, linked, Scanning, Checked-entry, Scannable, Checked-all};
-ghost use Rattle.dictionary_valid.specs.Scanning.{Fresh-start, Begins};
+ghost use Rattle.dictionary_valid.specs.Scanning.{Scanned, term-hash-length, Hashed, linked, Seen, Seekable, Scanning};
+ghost use Rattle.dictionary_valid.specs.Scanning.{Checked-entry, Decides, Follows, Checked-all, Scannable, Fresh-start, Begins};
+
+// The length of the hash: a head for each bucket, and a link for each entry.
+const TERM_HASH_LENGTH: usize = BUCKET_COUNT + BUCKET_COUNT;
 
 // Whether entries are as puts leave them, and where the bytes of the last of them end.
-pub struct Checked {
+pub struct CheckedEntry {
     pub ok: bool,
     pub end: usize,
 }
@@ -43,19 +56,45 @@ fn seen(
         if names(table, arena, cur - 1, kind, bytes) {
             return true;
         }
-        cur = hash[65536 + (cur - 1)] as usize;
+        cur = hash[BUCKET_COUNT + (cur - 1)] as usize;
     }
     false
 }
 
-// Entry k becomes the first of its bucket.
-fn link(hash: &mut [u32], bucket: usize, k: usize)
-    requires { ⌜ (length (now hash) ≡ 131072) × (bucket < 65536) × (k < 65536) ⌝ }
+// Enters entry k in the hash: it becomes the first of its bucket.
+fn hash_entry(hash: &mut [u32], bucket: usize, k: usize)
+    requires { ⌜ (length (now hash) ≡ term-hash-length) × (bucket < bucket-count) × (k < bucket-count) ⌝ }
     ensures { λ _. ⌜ now (hash .exit) ≡ linked (now (hash .entry)) bucket k ⌝ }
 {
     let first = hash[bucket];
-    hash[65536 + k] = first;
+    hash[BUCKET_COUNT + k] = first;
     hash[bucket] = (k + 1) as u32;
+}
+
+// Whether the numbers of entry k are those of a term whose bytes begin at a place of the arena.
+fn entry_follows(table: &[u32], arena: &[u8], k: usize, at: usize) -> bool
+    requires { ⌜ (entry-at (k + 1) ≤ length (now table)) × (at ≤ length (now arena)) ⌝ }
+    ensures { λ r. ⌜ Decides (Follows (now (table .entry)) (now (arena .entry)) k at) r ⌝ }
+{
+    let entry = HEADS_WIDTH + ENTRY_WIDTH * k;
+    let len = table[entry + 1] as usize;
+    let kind = table[entry + 2];
+    if table[entry] as usize != at {
+        return false;
+    }
+    if TERM_LIMIT < len {
+        return false;
+    }
+    if arena.len() - at < len {
+        return false;
+    }
+    if kind < 1 {
+        return false;
+    }
+    if 3 < kind {
+        return false;
+    }
+    true
 }
 
 // Whether entry k is as a put leaves it behind the others; if so it is entered in the heads and in the hash.
@@ -66,71 +105,65 @@ fn check_entry(
     hash: &mut [u32],
     k: usize,
     at: usize,
-) -> Checked
-    requires { ⌜ Scanning (now table) (now arena) (now heads) (now hash) k at × (64 ≤ length (now heads)) ⌝ }
-    ensures { λ r. ⌜ Checked-entry (now (table .entry)) (now (arena .entry)) (now (heads .exit)) (now (hash .exit)) k (r .ok) (r .end) ⌝ }
+) -> CheckedEntry
+    requires { ⌜ Scanning (now table) (now arena) (now heads) (now hash) k at × (heads-width ≤ length (now heads)) ⌝ }
+    ensures { λ r. ⌜ Checked-entry (now (table .entry)) (now (arena .entry))
+        (now (heads .exit)) (now (hash .exit)) k (r .ok) (r .end) ⌝ }
 {
-    let entry = 64 + 4 * k;
-    let len = table[entry + 1] as usize;
-    let kind = table[entry + 2];
-    if table[entry] as usize != at {
-        return broken();
+    if entry_follows(table, arena, k, at) {
+        let entry = HEADS_WIDTH + ENTRY_WIDTH * k;
+        let kind = table[entry + 2];
+        let end = at + table[entry + 1] as usize;
+        let d = digest(kind, &arena[at..end]);
+        let chain = d.chain;
+        if table[entry + 3] != heads[chain] {
+            return broken();
+        }
+        if seen(table, arena, hash, k, kind, &arena[at..end], d.bucket) {
+            return broken();
+        }
+        heads[chain] = k as u32;
+        hash_entry(hash, d.bucket, k);
+        return CheckedEntry { ok: true, end };
     }
-    if 4096 < len {
-        return broken();
-    }
-    if arena.len() - at < len {
-        return broken();
-    }
-    if kind < 1 {
-        return broken();
-    }
-    if 3 < kind {
-        return broken();
-    }
-    let end = at + len;
-    let d = digest(kind, &arena[at..end]);
-    let chain = d.chain;
-    if table[entry + 3] != heads[chain] {
-        return broken();
-    }
-    if seen(table, arena, hash, k, kind, &arena[at..end], d.bucket) {
-        return broken();
-    }
-    heads[chain] = k as u32;
-    link(hash, d.bucket, k);
-    Checked { ok: true, end }
+    broken()
 }
 
-fn broken() -> Checked
+fn broken() -> CheckedEntry
     ensures { λ r. ⌜ r .ok ≡ false ⌝ }
 {
-    Checked { ok: false, end: 0 }
+    CheckedEntry { ok: false, end: 0 }
 }
 
 // Enters the start's entries in the hash.
 fn hash_start(table: &[u32], arena: &[u8], hash: &mut [u32], heads: &[u32])
-    requires { ⌜ Scanned (now table) (now arena) (now heads) 31 1325 × Hashed (now table) (now arena) (now hash) 0 ⌝ }
-    ensures { λ _. ⌜ Hashed (now (table .entry)) (now (arena .entry)) (now (hash .exit)) 31 ⌝ }
+    requires { ⌜ Scanned (now table) (now arena) (now heads) start-count start-bytes × Hashed (now table) (now arena) (now hash) 0 ⌝ }
+    ensures { λ _. ⌜ Hashed (now (table .entry)) (now (arena .entry)) (now (hash .exit)) start-count ⌝ }
 {
     let mut k = 0;
-    while k < 31 {
-        let entry = 64 + 4 * k;
+    while k < START_COUNT {
+        let entry = HEADS_WIDTH + ENTRY_WIDTH * k;
         let start = table[entry] as usize;
         let end = start + table[entry + 1] as usize;
         let bucket = digest(table[entry + 2], &arena[start..end]).bucket;
-        link(hash, bucket, k);
+        hash_entry(hash, bucket, k);
         k += 1;
     }
 }
 
 // Whether all entries behind the start's are as puts leave them, and where their bytes end.
-fn scan(table: &[u32], arena: &[u8], heads: &mut [u32], hash: &mut [u32], terms: usize) -> Checked
+fn scan(
+    table: &[u32],
+    arena: &[u8],
+    heads: &mut [u32],
+    hash: &mut [u32],
+    terms: usize,
+) -> CheckedEntry
     requires { ⌜ Scannable (now table) (now arena) (now heads) (now hash) terms ⌝ }
     ensures { λ r. ⌜ Checked-all (now (table .entry)) (now (arena .entry)) (now (heads .exit)) terms (r .ok) (r .end) ⌝ }
 {
-    let mut at = 1325;
-    let mut k = 31;
+    let mut at = START_BYTES;
+    let mut k = START_COUNT;
     while k < terms {
         let next = check_entry(table, arena, heads, hash, k, at);
         if next.ok {
@@ -140,7 +173,7 @@ fn scan(table: &[u32], arena: &[u8], heads: &mut [u32], hash: &mut [u32], terms:
         }
         return broken();
     }
-    Checked { ok: true, end: at }
+    CheckedEntry { ok: true, end: at }
 }
 
 // Whether the table and the arena begin with the entries and the bytes of a fresh dictionary.
@@ -148,22 +181,25 @@ fn begins_fresh(table: &[u32], arena: &[u8], fresh: &[u32], iris: &[u8]) -> bool
     requires { ⌜ Fresh-start (now table) (now arena) (now fresh) (now iris) ⌝ }
     ensures { λ r. ⌜ Begins (now (table .entry)) (now (arena .entry)) (now (fresh .entry)) r ⌝ }
 {
-    if same_numbers(&table[64..188], &fresh[64..188]) {
-        return same_bytes(&arena[0..1325], iris);
+    if same_numbers(
+        &table[HEADS_WIDTH..START_TABLE],
+        &fresh[HEADS_WIDTH..START_TABLE],
+    ) {
+        return same_bytes(&arena[0..START_BYTES], iris);
     }
     false
 }
 
 // Whether the counters, the heads and the unused parts are those of the entries scanned.
 fn ends_so(table: &[u32], arena: &[u8], counters: Counters, heads: &[u32], used: usize) -> bool
-    requires { ⌜ Scanned (now table) (now arena) (now heads) (counters .terms) used × (64 ≤ length (now heads)) ⌝ }
+    requires { ⌜ Scanned (now table) (now arena) (now heads) (counters .terms) used × (heads-width ≤ length (now heads)) ⌝ }
     ensures { λ r. ⌜ r ≡ valid (contents (now (table .entry)) (now (arena .entry)) counters) ⌝ }
 {
     if used != counters.used as usize {
         return false;
     }
-    if same_numbers(&table[0..64], &heads[0..64]) {
-        let rest = 64 + 4 * (counters.terms as usize);
+    if same_numbers(&table[0..HEADS_WIDTH], &heads[0..HEADS_WIDTH]) {
+        let rest = HEADS_WIDTH + ENTRY_WIDTH * (counters.terms as usize);
         if zero_numbers(&table[rest..]) {
             return zero_bytes(&arena[used..]);
         }
@@ -173,21 +209,21 @@ fn ends_so(table: &[u32], arena: &[u8], counters: Counters, heads: &[u32], used:
 
 // The test, with a hash of zeros.
 fn is_valid_by(table: &[u32], arena: &[u8], counters: Counters, hash: &mut [u32]) -> bool
-    requires { ⌜ (length (now hash) ≡ 131072) × (now hash ≡ replicate 131072 0) ⌝ }
+    requires { ⌜ (length (now hash) ≡ term-hash-length) × (now hash ≡ replicate term-hash-length 0) ⌝ }
     ensures { λ r. ⌜ r ≡ valid (contents (now (table .entry)) (now (arena .entry)) counters) ⌝ }
 {
     let terms = counters.terms as usize;
-    if refusal(table.len(), arena.len()) != 0 {
+    if start_refusal(table.len(), arena.len()) != 0 {
         return false;
     }
-    if terms < 31 {
+    if terms < START_COUNT {
         return false;
     }
-    if table.len() < 64 + 4 * terms {
+    if table.len() < HEADS_WIDTH + ENTRY_WIDTH * terms {
         return false;
     }
-    let mut heads = [0u32; 188];
-    let mut iris = [0u8; 1325];
+    let mut heads = [0u32; START_TABLE];
+    let mut iris = [0u8; START_BYTES];
     enter_all(&mut heads, &mut iris);
     if begins_fresh(table, arena, &heads, &iris) {
         hash_start(table, arena, hash, &heads);
@@ -203,6 +239,6 @@ fn is_valid_by(table: &[u32], arena: &[u8], counters: Counters, hash: &mut [u32]
 pub fn is_valid(table: &[u32], arena: &[u8], counters: Counters) -> bool
     ensures { λ r. ⌜ r ≡ valid (contents (now (table .entry)) (now (arena .entry)) counters) ⌝ }
 {
-    let mut hash = [0u32; 131072];
+    let mut hash = [0u32; TERM_HASH_LENGTH];
     is_valid_by(table, arena, counters, &mut hash)
 }

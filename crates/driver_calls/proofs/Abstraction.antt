@@ -14,8 +14,7 @@ use Rattle.dictionary_layout.proofs.Holding.{Holds, holds-put}
 use Rattle.dictionary_layout.proofs.Reachable.{on-layout, start-holds, start-leaves}
 use Rattle.driver_run.proofs.PuttingAll.{put-all-holds}
 use Rattle.driver_calls.specs.Calls.{Call, put, lookup, run-on, put-gave, lookup-gave, run-gave, Left, call-gives}
-use Rattle.driver_calls.specs.Calls.{Abstract-result, abstract-call}
-use Rattle.driver_calls.specs.Calls.{event, List-left, calls-give, events-of, terms-after}
+use Rattle.driver_calls.specs.Calls.{Abstract-result, abstract-call, event, List-left, calls-give, events-of, terms-after}
 use Rattle.driver_calls.specs.Demand3.{abstract-list}
 
 -- one call

@@ -1,7 +1,7 @@
 -- DEMAND 3, proved: every list of calls from what an accepted start leaves. Assumes nothing.
 use mathlib.Core.Path.{_≡_, sym, _∙_, ap, subst}
 use mathlib.Core.List.{List, _++_}
-use Prim.Native.Nat.{ℕ, suc, _*_, _/_}
+use Prim.Native.Nat.{ℕ, suc, _*_}
 use lib.ListN.{length, take}
 use Rattle.common.specs.Triples.{Triple, triple, Finding, finding, In, key-triple, key-finding, Ascending}
 use Rattle.meaning.specs.Rules.{Graph}
@@ -9,6 +9,7 @@ use Rattle.meaning.specs.Containers.{Containers}
 use Rattle.meaning.specs.Table.{graph-of}
 use Rattle.meaning.specs.Closure.{Sub, IsClosure, closure, five-counts, total}
 use Rattle.meaning.specs.Run.{accepted, run}
+use Rattle.common.specs.Sizes.{store-width, finding-width}
 use Rattle.common.specs.Rows.{flat, flat-findings, triples, findings-of, filled}
 use Rattle.meaning.specs.Batch.{Same, Conditions}
 use Rattle.meaning.proofs.Checks.{findings-ascending, findings→, findings←, found-up}
@@ -22,11 +23,11 @@ use Rattle.dictionary_layout.specs.Terms.{Term, start-terms}
 use Rattle.dictionary_layout.specs.Layout.{decode}
 use Rattle.dictionary_layout.specs.Calls.{start-gives}
 use Rattle.dictionary_layout.proofs.Decoding.{decode-layout}
-use Rattle.driver_load.specs.Lent.{Lent, Run-answer, outcome-answer, containers}
-use Rattle.driver_calls.specs.Calls.{Call, run-on, run-gave, event, List-left, calls-give, events-of, terms-after}
-use Rattle.driver_calls.specs.Demand3.{answer, found, Agree, Exact, Demand-3}
+use Rattle.driver_load.specs.Lent.{Lent, Run-answer, store-room, findings-room, outcome-answer, containers}
+use Rattle.driver_calls.specs.Calls.{Call, ran, List-left, events-of, terms-after}
+use Rattle.driver_calls.specs.Demand3.{answer, found, Agree, Exact, list-gives, Demand-3}
 use Rattle.driver_calls.proofs.Abstraction.{start-abstract}
-use Rattle.driver_calls.proofs.Growth.{reading}
+use Rattle.driver_calls.proofs.Growth.{Reading, reading}
 use Rattle.driver_calls.proofs.Unbroken.{events-unbroken}
 
 -- what an accepted run's store and findings hold
@@ -34,7 +35,7 @@ module _ (c : Containers) (b : Lent) (cap fcap : ℕ) (X N : List Triple) (F : L
     (r : run c cap fcap X ≡ accepted N F n k) where
   pub answer-of-accepted : answer (outcome-answer b (accepted N F n k)) ≡ N
   answer-of-accepted =
-      ap (λ m. triples (take (3 * m) (filled (b .store) (flat N)))) (accepted→ c cap fcap X N F n k r .count)
+      ap (λ m. triples (take (store-width * m) (filled (b .store) (flat N)))) (accepted→ c cap fcap X N F n k r .count)
       ∙ triples-filled (b .store) N
 
   counted : total k ≡ length F
@@ -44,7 +45,7 @@ module _ (c : Containers) (b : Lent) (cap fcap : ℕ) (X N : List Triple) (F : L
 
   pub findings-of-accepted : found (outcome-answer b (accepted N F n k)) ≡ F
   findings-of-accepted =
-      ap (λ m. findings-of (take (5 * m) (filled (b .findings) (flat-findings F)))) counted ∙ findings-filled (b .findings) F
+      ap (λ m. findings-of (take (finding-width * m) (filled (b .findings) (flat-findings F)))) counted ∙ findings-filled (b .findings) F
 
   pub exact : (Y : List Triple) → Same X Y → Exact c Y (outcome-answer b (accepted N F n k))
   exact Y s =
@@ -69,10 +70,27 @@ module _ (c : Containers) (b : Lent) (cap fcap : ℕ) (X N : List Triple) (F : L
         counts = a .counts ∙ ap five-counts (sym findings-of-accepted);
       }
 
+-- the same of a run that was read with the terms of its list's end
+module _ {ws : List Term} {b : Lent} {o : Run-answer} (r : Reading ws b o) where
+  read-answer : answer o ≡ r .answer
+  read-answer =
+      ap answer (r .gives) ∙ answer-of-accepted (containers ws) b (store-room b) (findings-room b) (triples (b .load)) (r .answer)
+      (r .row) (r .n) (r .k) (r .runs)
+
+  read-found : found o ≡ r .row
+  read-found =
+      ap found (r .gives) ∙ findings-of-accepted (containers ws) b (store-room b) (findings-room b) (triples (b .load)) (r .answer)
+      (r .row) (r .n) (r .k) (r .runs)
+
+  read-exact : (Y : List Triple) → Same (triples (b .load)) Y → Exact (containers ws) Y o
+  read-exact Y s =
+      subst (Exact (containers ws) Y) (sym (r .gives)) (exact (containers ws) b (store-room b) (findings-room b) (triples (b .load))
+      (r .answer) (r .row) (r .n) (r .k) (r .runs) Y s)
+
 -- three accepted runs of a list, read with the terms of its end
 batches : (tl al : ℕ) (ts : List Term) (cs : List Call) (b₁ b₂ b₃ : Lent) (o₁ o₂ o₃ : Run-answer)
-    → In (event (run-on b₁) (run-gave o₁)) (events-of tl al ts cs)
-    → In (event (run-on b₂) (run-gave o₂)) (events-of tl al ts cs) → In (event (run-on b₃) (run-gave o₃)) (events-of tl al ts cs)
+    → In (ran b₁ o₁) (events-of tl al ts cs)
+    → In (ran b₂ o₂) (events-of tl al ts cs) → In (ran b₃ o₃) (events-of tl al ts cs)
     → o₁ .number ≡ 0 → o₂ .number ≡ 0 → o₃ .number ≡ 0
     → (A B : List Triple) → Same (triples (b₁ .load)) A → Same (triples (b₂ .load)) (answer o₁ ++ B) → Same (triples (b₃ .load)) (A ++ B)
     → Conditions (containers (terms-after tl al ts cs) .is) A B (answer o₁)
@@ -82,53 +100,35 @@ batches tl al ts cs b₁ b₂ b₃ o₁ o₂ o₃ i₁ i₂ i₃ n₁ n₂ n₃ 
     let r₂ = reading tl al ts cs b₂ o₂ i₂ n₂ in
     let r₃ = reading tl al ts cs b₃ o₃ i₃ n₃ in
     let c = containers (terms-after tl al ts cs) in
-    let x₁ = length (b₁ .store) / 3 in
-    let x₂ = length (b₂ .store) / 3 in
-    let x₃ = length (b₃ .store) / 3 in
-    let y₁ = length (b₁ .findings) / 5 in
-    let y₂ = length (b₂ .findings) / 5 in
-    let y₃ = length (b₃ .findings) / 5 in
-    let q : answer o₁ ≡ r₁ .answer = ap answer (r₁ .gives)
-    ∙ answer-of-accepted c b₁ x₁ y₁ (triples (b₁ .load)) (r₁ .answer) (r₁ .row) (r₁ .n) (r₁ .k) (r₁ .runs) in
-    let a₂ = ap answer (r₂ .gives) ∙ answer-of-accepted c b₂ x₂ y₂ (triples (b₂ .load)) (r₂ .answer) (r₂ .row) (r₂ .n) (r₂ .k) (r₂ .runs) in
-    let a₃ = ap answer (r₃ .gives) ∙ answer-of-accepted c b₃ x₃ y₃ (triples (b₃ .load)) (r₃ .answer) (r₃ .row) (r₃ .n) (r₃ .k) (r₃ .runs) in
-    let f₂ = ap found (r₂ .gives) ∙ findings-of-accepted c b₂ x₂ y₂ (triples (b₂ .load)) (r₂ .answer) (r₂ .row) (r₂ .n) (r₂ .k)
-    (r₂ .runs) in
-    let f₃ = ap found (r₃ .gives) ∙ findings-of-accepted c b₃ x₃ y₃ (triples (b₃ .load)) (r₃ .answer) (r₃ .row) (r₃ .n) (r₃ .k)
-    (r₃ .runs) in
-    let (e, f, g, k) = batch-law c A B (triples (b₁ .load)) (triples (b₂ .load)) (triples (b₃ .load)) x₁ y₁ x₂ y₂ x₃ y₃
+    let (e, f, g, k) = batch-law c A B (triples (b₁ .load)) (triples (b₂ .load)) (triples (b₃ .load))
+    (store-room b₁) (findings-room b₁) (store-room b₂) (findings-room b₂) (store-room b₃) (findings-room b₃)
     (r₁ .answer) (r₂ .answer) (r₃ .answer) (r₁ .row) (r₂ .row) (r₃ .row) (r₁ .n) (r₂ .n) (r₃ .n) (r₁ .k) (r₂ .k) (r₃ .k)
     (r₁ .runs) (r₂ .runs) (r₃ .runs)
-    s₁ (subst (λ N. Same (triples (b₂ .load)) (N ++ B)) q s₂) s₃ (r₁ .clean) (subst (Conditions (c .is) A B) q h) in (
+    s₁ (subst (λ N. Same (triples (b₂ .load)) (N ++ B)) (read-answer r₁) s₂) s₃ (r₁ .clean)
+    (subst (Conditions (c .is) A B) (read-answer r₁) h) in (
       record {
-        same-triples = a₂ ∙ (e ∙ sym a₃);
-        same-findings = f₂ ∙ (f ∙ sym f₃);
+        same-triples = read-answer r₂ ∙ (e ∙ sym (read-answer r₃));
+        same-findings = read-found r₂ ∙ (f ∙ sym (read-found r₃));
         same-count = ap (λ (o : Run-answer). o .count) (r₂ .gives) ∙ (g ∙ sym (ap (λ (o : Run-answer). o .count) (r₃ .gives)));
         same-counts = ap (λ (o : Run-answer). o .counts) (r₂ .gives) ∙ (k ∙ sym (ap (λ (o : Run-answer). o .counts) (r₃ .gives)));
       },
-      subst (Exact c (A ++ B)) (sym (r₃ .gives)) (exact c b₃ x₃ y₃ (triples (b₃ .load)) (r₃ .answer) (r₃ .row) (r₃ .n) (r₃ .k)
-          (r₃ .runs) (A ++ B) s₃),
+      read-exact r₃ (A ++ B) s₃,
     )
 
 -- every accepted run of a list
 each-exact : (tl al : ℕ) (ts : List Term) (cs : List Call) (b : Lent) (o : Run-answer)
-    → In (event (run-on b) (run-gave o)) (events-of tl al ts cs) → o .number ≡ 0
+    → In (ran b o) (events-of tl al ts cs) → o .number ≡ 0
     → Exact (containers (terms-after tl al ts cs)) (triples (b .load)) o
-each-exact tl al ts cs b o i n =
-    let r = reading tl al ts cs b o i n in
-    let c = containers (terms-after tl al ts cs) in
-    subst (Exact c (triples (b .load))) (sym (r .gives))
-    (exact c b (length (b .store) / 3) (length (b .findings) / 5) (triples (b .load)) (r .answer) (r .row) (r .n) (r .k) (r .runs)
-    (triples (b .load)) (λ t j. j, λ t j. j))
+each-exact tl al ts cs b o i n = read-exact (reading tl al ts cs b o i n) (triples (b .load)) (λ t j. j, λ t j. j)
 
 pub demand-3 : (table arena : List ℕ) → start-gives table arena .number ≡ 0 → (cs : List Call) → Demand-3 table arena cs
 demand-3 table arena s cs =
     let tl = length table in
     let al = length arena in
     let e = start-abstract table arena cs s in
-    let f : calls-give (start-gives table arena .contents) cs .events
+    let f : list-gives table arena cs .events
     ≡ events-of tl al start-terms cs = ap (λ (l : List-left). l .events) e in
-    let g : decode (calls-give (start-gives table arena .contents) cs .contents)
+    let g : decode (list-gives table arena cs .contents)
     ≡ terms-after tl al start-terms cs = ap (λ (l : List-left). decode (l .contents)) e
     ∙ decode-layout tl al (terms-after tl al start-terms cs) in
     record {
@@ -136,10 +136,10 @@ demand-3 table arena s cs =
       unbroken = λ v i. events-unbroken tl al start-terms cs v (subst (In v) f i);
       exact-each = λ b o i n.
           subst (λ (ws : List Term). Exact (containers ws) (triples (b .load)) o) (sym g)
-          (each-exact tl al start-terms cs b o (subst (In (event (run-on b) (run-gave o))) f i) n);
+          (each-exact tl al start-terms cs b o (subst (In (ran b o)) f i) n);
       batch = λ b₁ b₂ b₃ o₁ o₂ o₃ i₁ i₂ i₃ n₁ n₂ n₃ A B s₁ s₂ s₃ h.
           subst (λ (ws : List Term). Agree o₂ o₃ × Exact (containers ws) (A ++ B) o₃) (sym g)
-          (batches tl al start-terms cs b₁ b₂ b₃ o₁ o₂ o₃ (subst (In (event (run-on b₁) (run-gave o₁))) f i₁)
-          (subst (In (event (run-on b₂) (run-gave o₂))) f i₂) (subst (In (event (run-on b₃) (run-gave o₃))) f i₃)
+          (batches tl al start-terms cs b₁ b₂ b₃ o₁ o₂ o₃ (subst (In (ran b₁ o₁)) f i₁)
+          (subst (In (ran b₂ o₂)) f i₂) (subst (In (ran b₃ o₃)) f i₃)
           n₁ n₂ n₃ A B s₁ s₂ s₃ (subst (λ (ws : List Term). Conditions (containers ws .is) A B (answer o₁)) g h));
     }

@@ -3,11 +3,11 @@ use mathlib.Core.Path.{_≡_, refl, sym, _∙_, ap, subst}
 use mathlib.Core.Logic.{_⊎_, inl, inr}
 use mathlib.Core.Bool.{_&&_, not}
 use mathlib.Core.List.{List, [], _∷_}
-use Prim.Native.Nat.{ℕ, zero, suc, _/_, _≤_, _<_}
+use Prim.Native.Nat.{ℕ, zero, suc, _≤_, _<_}
 use native.Mathlib.Omega.{arith}
 use lib.Dec.{T, ltb, eqb, ltb→lt}
 use lib.ListN.{length, getD, List·getD-append}
-use Rattle.driver_load.specs.Lent.{Lent, Run-answer, outcome-answer, containers, closed}
+use Rattle.driver_load.specs.Lent.{Lent, Run-answer, store-room, findings-room, outcome-answer, containers, closed}
 use Rattle.driver_run.specs.Run.{Abstract-run-result, run-all-put, run-passed, abstract-run}
 use Rattle.driver_refusals.specs.RunRefusals.{first-refusal, run-refusals}
 use Rattle.dictionary_layout.specs.Terms.{Term, no-term, property-term, membership-term, member-term, run-terms}
@@ -18,10 +18,11 @@ use Rattle.meaning.specs.Run.{accepted, run}
 use Rattle.common.specs.Rows.{triples}
 use Rattle.common.proofs.Lists.{in-nil, in-cons, and←}
 use Rattle.meaning.proofs.Run.{same-dictionary}
-use Rattle.driver_run.proofs.PuttingAll.{Grown, grown-none, grown-trans, grown-length, put-grows, put-all-grows, place-kept, Has}
-use Rattle.driver_run.proofs.PuttingAll.{put-all-has}
+use Rattle.driver_run.proofs.PuttingAll.{Grown, grown-none, grown-trans, grown-length, put-grows, put-all-grows, Has, put-all-has}
+use Rattle.dictionary_run_terms.proofs.Places.{place-stays}
 use Rattle.driver_refusals.proofs.Refusing.{all-in}
-use Rattle.driver_calls.specs.Calls.{Call, put, lookup, run-on, run-gave, abstract-call, Event, event, events-of, terms-after}
+use Rattle.driver_calls.specs.Calls.{Call, put, lookup, run-on, run-gave, abstract-call, Event, event, ran, events-of}
+use Rattle.driver_calls.specs.Calls.{terms-after}
 use Rattle.driver_run.proofs.Accepting.{AcceptedRun, run-accepted}
 
 run-grows : (tl al : ℕ) (ts : List Term) (b : Lent) → Grown ts (abstract-run tl al ts b .held)
@@ -69,7 +70,7 @@ later us ws g h load k cap fcap =
     cap fcap
   where
     same : (t : Term) → Has us t → id-of (place-from 0 t us) ≡ id-of (place-from 0 t ws)
-    same t x = ap id-of (x .1 ∙ sym (ap (place-from 0 t) (g .1) ∙ place-kept 0 t us (g .0) (x .0) (x .1)))
+    same t x = ap id-of (x .1 ∙ sym (ap (place-from 0 t) (g .1) ∙ place-stays 0 t us (g .0) (x .0) (x .1)))
 
 -- EVERY ACCEPTED RUN OF A LIST, read with the terms of the list's end
 pub record Reading (ws : List Term) (b : Lent) (o : Run-answer) : Type 0 where
@@ -92,7 +93,7 @@ accepted-reading tl al ts ws b l a g =
       n = a .n;
       k = a .k;
       runs = sym (later us ws (subst (λ x. Grown x ws) (a .held) g) (put-all-has tl al ts run-terms us (a .puts-all))
-          (triples (b .load)) (λ t i. below t i n) (length (b .store) / 3) (length (b .findings) / 5)) ∙ a .runs;
+          (triples (b .load)) (λ t i. below t i n) (store-room b) (findings-room b)) ∙ a .runs;
       gives = a .gives;
       clean = load-clean (b .load) (a .unblank);
     }
@@ -101,7 +102,7 @@ accepted-reading tl al ts ws b l a g =
     below t i n = let h = ltb→lt (t .p) (length ts) (all-in (λ i. ltb i (length ts)) (b .load) (a .known) t i .1) in omega arith
 
 first-reading : (tl al : ℕ) (ts ws : List Term) (c : Call) (b : Lent) (o : Run-answer)
-    → event (run-on b) (run-gave o) ≡ event c (abstract-call tl al ts c .out) → Grown (abstract-call tl al ts c .held) ws → o .number ≡ 0
+    → ran b o ≡ event c (abstract-call tl al ts c .out) → Grown (abstract-call tl al ts c .held) ws → o .number ≡ 0
     → Reading ws b o
 unfolding abstract-call
 first-reading tl al ts ws (put t) b o e g n =
@@ -122,16 +123,16 @@ first-reading tl al ts ws (run-on b′) b o e g n =
     (run-accepted tl al ts b′ (ap (λ (x : Run-answer). x .number) (sym q₂) ∙ n)) g))
 
 pub reading : (tl al : ℕ) (ts : List Term) (cs : List Call) (b : Lent) (o : Run-answer)
-    → In (event (run-on b) (run-gave o)) (events-of tl al ts cs) → o .number ≡ 0 → Reading (terms-after tl al ts cs) b o
+    → In (ran b o) (events-of tl al ts cs) → o .number ≡ 0 → Reading (terms-after tl al ts cs) b o
 unfolding events-of terms-after
 reading tl al ts [] b o i n = absurd (in-nil i)
 reading tl al ts (c ∷ cs) b o i n =
     go (in-cons i) (calls-grow tl al (abstract-call tl al ts c .held) cs) (λ j. reading tl al (abstract-call tl al ts c .held) cs b o j n)
   where
-    go : (event (run-on b) (run-gave o) ≡ event c (abstract-call tl al ts c .out))
-        ⊎ In (event (run-on b) (run-gave o)) (events-of tl al (abstract-call tl al ts c .held) cs)
+    go : (ran b o ≡ event c (abstract-call tl al ts c .out))
+        ⊎ In (ran b o) (events-of tl al (abstract-call tl al ts c .held) cs)
         → Grown (abstract-call tl al ts c .held) (terms-after tl al (abstract-call tl al ts c .held) cs)
-        → (In (event (run-on b) (run-gave o)) (events-of tl al (abstract-call tl al ts c .held) cs)
+        → (In (ran b o) (events-of tl al (abstract-call tl al ts c .held) cs)
         → Reading (terms-after tl al (abstract-call tl al ts c .held) cs) b o)
         → Reading (terms-after tl al (abstract-call tl al ts c .held) cs) b o
     go (inl e) g k = first-reading tl al ts (terms-after tl al (abstract-call tl al ts c .held) cs) c b o e g n

@@ -13,10 +13,8 @@ use Rattle.driver_run.specs.Run.{run-all-put, run-passed, abstract-run}
 use Rattle.driver_refusals.specs.RunRefusals.{Refusal, first-refusal, run-refusals}
 use Rattle.dictionary_layout.specs.Terms.{Term, run-terms}
 use Rattle.dictionary_layout.specs.Dictionary.{place-from, kind-known, short, roomy, put-answer, put-at, abstract-put, All-put, full}
-use Rattle.dictionary_layout.specs.Dictionary.{all-put}
-use Rattle.dictionary_layout.specs.Dictionary.{put-all, Lookup-answer, lookup-answer, term-of, abstract-lookup}
+use Rattle.dictionary_layout.specs.Dictionary.{all-put, put-all, Lookup-answer, lookup-answer, term-of, abstract-lookup}
 use Rattle.common.specs.Triples.{In, if}
-use Rattle.meaning.specs.Table.{none}
 use Rattle.meaning.specs.Run.{Outcome, store-full, findings-full, accepted}
 use Rattle.common.proofs.Lists.{in-nil, in-cons, and→}
 use Rattle.driver_calls.specs.Calls.{Call, put, lookup, run-on, abstract-call, Event, event, events-of, number-of}

@@ -32,7 +32,7 @@ call-gives d (put t) = let a = put-gives d t in record { out = put-gave (a .numb
 call-gives d (lookup i) = record { out = lookup-gave (lookup-gives d i); contents = d }
 call-gives d (run-on b) = let a = run-gives d b in record { out = run-gave (a .answer); contents = a .contents }
 
--- COMPUTED from the terms held: urn:_, the start's, then each new one that an accepted put, or a run that passes 7, puts-all, in order
+-- COMPUTED from the terms held: urn:_, the start's, then each new one that an accepted put, or a run that passes 7, puts, in order
 pub record Abstract-result : Type 0 where
   pub out : Out
   pub held : List Term
@@ -49,6 +49,10 @@ pub record Event : Type 0 where
 
 abbrev pub event : Call → Out → Event
 event c o = record { call = c; out = o }
+
+-- a run, and its answer
+abbrev pub ran : Lent → Run-answer → Event
+ran b o = event (run-on b) (run-gave o)
 
 -- A LIST OF CALLS over contents: what each gave, and the contents at the end; a refused call stays in the list
 pub record List-left : Type 0 where

@@ -10,20 +10,21 @@ use Rattle.common.specs.Triples.{Triple, triple, Finding, finding, In, key-trip
 use Rattle.meaning.specs.Rules.{Graph, Found}
 use Rattle.meaning.specs.Containers.{Containers}
 use Rattle.meaning.specs.Closure.{IsClosure, five-counts, total}
+use Rattle.common.specs.Sizes.{store-width, finding-width}
 use Rattle.common.specs.Rows.{triples, findings-of}
 use Rattle.meaning.specs.Batch.{Same, Conditions}
 use Rattle.dictionary_layout.specs.Terms.{start-terms}
 use Rattle.dictionary_layout.specs.Layout.{layout, decode}
 use Rattle.dictionary_layout.specs.Calls.{start-gives}
 use Rattle.driver_load.specs.Lent.{Lent, Run-answer, containers}
-use Rattle.driver_calls.specs.Calls.{Call, run-on, run-gave, Event, event, List-left, calls-give, events-of, terms-after, number-of}
+use Rattle.driver_calls.specs.Calls.{Call, Event, ran, List-left, calls-give, events-of, terms-after, number-of}
 
 -- the triples that a run's store holds, by its triple count, and the records of its findings, by its five counts
 abbrev pub answer : Run-answer → List Triple
-answer o = triples (take (3 * o .count) (o .store))
+answer o = triples (take (store-width * o .count) (o .store))
 
 abbrev pub found : Run-answer → List Finding
-found o = findings-of (take (5 * total (o .counts)) (o .findings))
+found o = findings-of (take (finding-width * total (o .counts)) (o .findings))
 
 -- the same triples, findings, triple count and five counts. REFERENCE 8.3
 pub record Agree (o o′ : Run-answer) : Type 0 where
@@ -48,25 +49,32 @@ pub record Exact (c : Containers) (load : List Triple) (o : Run-answer) : Type 1
 abbrev pub abstract-list : ℕ → ℕ → List Call → List-left
 abstract-list tl al cs = record { events = events-of tl al start-terms cs; contents = layout tl al (terms-after tl al start-terms cs) }
 
+-- what the list cs leaves after an accepted start that was lent this table and arena, and what it says of container properties
+abbrev pub list-gives : List ℕ → List ℕ → List Call → List-left
+list-gives table arena cs = calls-give (start-gives table arena .contents) cs
+
+abbrev pub containers-after : List ℕ → List ℕ → List Call → Containers
+containers-after table arena cs = containers (decode (list-gives table arena cs .contents))
+
 -- the table and the arena are those that the start was lent, cs the calls after it
 pub record Demand-3 (table arena : List ℕ) (cs : List Call) : Type 1 where
   -- call by call: what each gives over the contents that the call before left is what is computed from the lengths and the calls'
   -- other arguments, and so are the contents that the list leaves
-  pub each : calls-give (start-gives table arena .contents) cs ≡ abstract-list (length table) (length arena) cs
+  pub each : list-gives table arena cs ≡ abstract-list (length table) (length arena) cs
   -- refusal 1 never occurs
-  pub unbroken : (e : Event) → In e (calls-give (start-gives table arena .contents) cs .events) → number-of (e .out) ≢ 1
+  pub unbroken : (e : Event) → In e (list-gives table arena cs .events) → number-of (e .out) ≢ 1
   -- every accepted run of the list: exactly what the closure of its load says
   pub exact-each : (b : Lent) (o : Run-answer)
-      → In (event (run-on b) (run-gave o)) (calls-give (start-gives table arena .contents) cs .events) → o .number ≡ 0
-      → Exact (containers (decode (calls-give (start-gives table arena .contents) cs .contents))) (triples (b .load)) o
+      → In (ran b o) (list-gives table arena cs .events) → o .number ≡ 0
+      → Exact (containers-after table arena cs) (triples (b .load)) o
   -- wherever three accepted runs of the list load A, then A's answer with B, then A and B together, each load in any order and with any
   -- repeats; under the conditions on list triples and container properties, an id's term being read in the dictionary that the list leaves:
   -- the last two give the same, and it is what the closure of A and B together says
   pub batch : (b₁ b₂ b₃ : Lent) (o₁ o₂ o₃ : Run-answer)
-      → In (event (run-on b₁) (run-gave o₁)) (calls-give (start-gives table arena .contents) cs .events)
-      → In (event (run-on b₂) (run-gave o₂)) (calls-give (start-gives table arena .contents) cs .events)
-      → In (event (run-on b₃) (run-gave o₃)) (calls-give (start-gives table arena .contents) cs .events)
+      → In (ran b₁ o₁) (list-gives table arena cs .events)
+      → In (ran b₂ o₂) (list-gives table arena cs .events)
+      → In (ran b₃ o₃) (list-gives table arena cs .events)
       → o₁ .number ≡ 0 → o₂ .number ≡ 0 → o₃ .number ≡ 0
       → (A B : List Triple) → Same (triples (b₁ .load)) A → Same (triples (b₂ .load)) (answer o₁ ++ B) → Same (triples (b₃ .load)) (A ++ B)
-      → Conditions (containers (decode (calls-give (start-gives table arena .contents) cs .contents)) .is) A B (answer o₁)
-      → Agree o₂ o₃ × Exact (containers (decode (calls-give (start-gives table arena .contents) cs .contents))) (A ++ B) o₃
+      → Conditions (containers-after table arena cs .is) A B (answer o₁)
+      → Agree o₂ o₃ × Exact (containers-after table arena cs) (A ++ B) o₃

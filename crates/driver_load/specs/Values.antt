@@ -1,9 +1,13 @@
 -- The answer that a value of src/ stands for, with the buffers as they are left. Assumes nothing.
-use mathlib.Core.List.{List}
 use Prim.Native.Nat.{ℕ}
 use Rattle.driver_load.specs.declared.values.RunAnswer.{RunAnswer}
-use Rattle.driver_load.specs.Lent.{Run-answer}
+use Rattle.driver_load.specs.Lent.{Lent, Run-answer, five-zeros}
 
--- the answer of a run, with store, findings and list work buffer as they are left
-abbrev pub answered : RunAnswer → List ℕ → List ℕ → List ℕ → Run-answer
-answered r s f w = record { number = r .number; count = r .count; counts = r .counts; store = s; findings = f; work = w }
+-- that of a refused run
+abbrev pub refused-answer : ℕ → RunAnswer
+refused-answer n = record { number = n; count = 0; counts = five-zeros }
+
+-- the answer of a run that leaves the buffers b
+abbrev pub answered : RunAnswer → Lent → Run-answer
+answered r b =
+    record { number = r .number; count = r .count; counts = r .counts; store = b .store; findings = b .findings; work = b .work }

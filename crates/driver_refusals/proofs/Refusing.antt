@@ -3,7 +3,7 @@ use mathlib.Core.Path.{_≡_, refl, sym, ap, subst, _∙_}
 use mathlib.Core.Logic.{_⊎_, inl, inr}
 use mathlib.Core.Bool.{Bool, true, false, _&&_, not}
 use mathlib.Core.List.{List, [], _∷_}
-use Prim.Native.Nat.{ℕ, _+_, _≤_, _<_}
+use Prim.Native.Nat.{ℕ, zero, suc, _+_, _≤_, _<_}
 use native.Mathlib.Numerals.{add-one}
 use native.Mathlib.Omega.{arith}
 use lib.ListN.{length, drop, getD}
@@ -12,14 +12,42 @@ use lib.Dec.{T, ltb, ltb→lt}
 use Rattle.common.specs.Triples.{Triple, triple, In, if, all}
 use Rattle.common.specs.Rows.{triples}
 use Rattle.common.proofs.Lists.{in-nil, in-cons, and→}
-use Rattle.driver_refusals.specs.RunRefusals.{Refusal, refusal-if, first-refusal}
+use Rattle.driver_refusals.specs.RunRefusals.{Refusal, first-refusal}
 
--- a condition that is met ends the search, and another goes on
-pub met : (n : ℕ) (b : Bool) (r : List Refusal) → b ≡ true → n ≡ first-refusal (refusal-if n b ∷ r)
-met n b r e = ap (λ (c : Bool). if c (λ _. n) (λ _. first-refusal r)) (sym e)
+-- the first k conditions are not met
+abbrev pub Past : ℕ → List Refusal → Type 0
+Past zero r = Unit {0}
+Past (suc k) [] = Unit {0}
+Past (suc k) (s ∷ r) = (s .met ≡ false) × Past k r
 
-pub unmet : (n : ℕ) (b : Bool) (r : List Refusal) {k : ℕ} → b ≡ false → k ≡ first-refusal r → k ≡ first-refusal (refusal-if n b ∷ r)
-unmet n b r e q = q ∙ ap (λ (c : Bool). if c (λ _. n) (λ _. first-refusal r)) (sym e)
+-- the condition after the first k, and the number of its refusal
+abbrev pub met-at : ℕ → List Refusal → Bool
+met-at k [] = false
+met-at zero (s ∷ r) = s .met
+met-at (suc k) (s ∷ r) = met-at k r
+
+abbrev pub number-at : ℕ → List Refusal → ℕ
+number-at k [] = 0
+number-at zero (s ∷ r) = s .number
+number-at (suc k) (s ∷ r) = number-at k r
+
+pub past-more : (k : ℕ) (r : List Refusal) → Past k r → met-at k r ≡ false → Past (suc k) r
+past-more zero [] p e = tt
+past-more zero (s ∷ r) p e = (e, tt)
+past-more (suc k) [] p e = tt
+past-more (suc k) (s ∷ r) p e = (p .0, past-more k r (p .1) e)
+
+-- THE FIRST CONDITION THAT IS MET: those before it are not, and it is
+pub first-met : (k : ℕ) (r : List Refusal) → Past k r → met-at k r ≡ true → number-at k r ≡ first-refusal r
+first-met k [] p e = refl
+first-met zero (s ∷ r) p e = ap (λ (c : Bool). if c (λ _. s .number) (λ _. first-refusal r)) (sym e)
+first-met (suc k) (s ∷ r) p e =
+    first-met k r (p .1) e ∙ ap (λ (c : Bool). if c (λ _. s .number) (λ _. first-refusal r)) (sym (p .0))
+
+-- and where none is
+pub none-met : (r : List Refusal) → Past (length r) r → 0 ≡ first-refusal r
+none-met [] p = refl
+none-met (s ∷ r) p = none-met r (p .1) ∙ ap (λ (c : Bool). if c (λ _. s .number) (λ _. first-refusal r)) (sym (p .0))
 
 -- a test of all elements, with j of them passed
 module _ (f : ℕ → Bool) (l : List ℕ) where

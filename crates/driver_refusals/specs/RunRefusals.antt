@@ -6,6 +6,8 @@ use Prim.Native.Nat.{ℕ, _+_, _*_, _%_}
 use lib.Dec.{ltb, eqb}
 use lib.ListN.{length}
 use Rattle.common.specs.Triples.{if, all}
+use Rattle.common.specs.Sizes.{load-width, load-limit, store-width, store-limit, finding-width, finding-limit, work-width}
+use Rattle.common.specs.Sizes.{run-terms-count}
 use Rattle.driver_load.specs.Lent.{Lent}
 
 -- REFUSALS in order: the number of the first whose condition is met, and 0 where none is
@@ -20,16 +22,16 @@ abbrev pub first-refusal : List Refusal → ℕ
 first-refusal [] = 0
 first-refusal (s ∷ r) = if (s .met) (λ _. s .number) (λ _. first-refusal r)
 
--- refusals 2 to 6, for a dictionary of n terms; 4 counts three terms more, held already or not
+-- refusals 2 to 6, for a dictionary of n terms; 4 counts the run's terms too, held already or not
 abbrev pub run-refusals : ℕ → Lent → List Refusal
 run-refusals n b =
-    refusal-if 2 (not (eqb (length (b .load) % 3) 0)) ∷
-    refusal-if 3 (ltb (3 * 16384) (length (b .load))) ∷
-    refusal-if 4 (not (eqb (length (b .store) % 3) 0)) ∷
-    refusal-if 4 (ltb (3 * 65535) (length (b .store))) ∷
-    refusal-if 4 (not (eqb (length (b .findings) % 5) 0)) ∷
-    refusal-if 4 (ltb (5 * 65535) (length (b .findings))) ∷
-    refusal-if 4 (ltb (length (b .work)) (2 * (n + 3))) ∷
+    refusal-if 2 (not (eqb (length (b .load) % load-width) 0)) ∷
+    refusal-if 3 (ltb (load-width * load-limit) (length (b .load))) ∷
+    refusal-if 4 (not (eqb (length (b .store) % store-width) 0)) ∷
+    refusal-if 4 (ltb (store-width * store-limit) (length (b .store))) ∷
+    refusal-if 4 (not (eqb (length (b .findings) % finding-width) 0)) ∷
+    refusal-if 4 (ltb (finding-width * finding-limit) (length (b .findings))) ∷
+    refusal-if 4 (ltb (length (b .work)) (work-width * (n + run-terms-count))) ∷
     refusal-if 5 (not (all (λ i. not (eqb i 0)) (b .load))) ∷
     refusal-if 6 (not (all (λ i. ltb i n) (b .load))) ∷
     []

@@ -1,4 +1,4 @@
--- What an accepted run says: the closure that it reads, the terms that it puts-all, and that no refusal was met. Assumes nothing.
+-- What an accepted run says: the closure that it reads, the terms that it puts, and that no refusal was met. Assumes nothing.
 use mathlib.Core.Path.{_≡_, refl}
 use mathlib.Core.Bool.{not}
 use mathlib.Core.List.{List}

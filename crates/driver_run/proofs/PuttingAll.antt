@@ -1,19 +1,17 @@
--- Terms all-put one after the other: they only grow, those that are held keep their ids, and those all-put are held. Assumes nothing.
+-- Terms put one after the other: they only grow, those that are held keep their ids, and those put are held. Assumes nothing.
 use mathlib.Core.Path.{_≡_, refl, sym, _∙_, ap, subst}
 use mathlib.Core.Logic.{_⊎_, inl, inr}
 use mathlib.Core.Bool.{Bool, true, false}
-use mathlib.Core.Option.{Option, some, none}
+use mathlib.Core.Option.{Option, some}
 use mathlib.Core.List.{List, [], _∷_, _++_, append-assoc, append-nil}
 use Prim.Native.Nat.{ℕ, zero, suc, _+_, _≤_, _<_}
 use native.Mathlib.Omega.{arith}
-use lib.Dec.{T}
 use lib.ListN.{length, length-append}
 use Rattle.common.specs.Triples.{In, if}
 use Rattle.common.proofs.Lists.{in-nil, in-cons}
 use Rattle.dictionary_layout.specs.Terms.{Term}
-use Rattle.dictionary_layout.specs.Dictionary.{same-term, place-from, place-of, id-of, kind-known, short, roomy, put-answer, put-at}
-use Rattle.dictionary_layout.specs.Dictionary.{abstract-put, full, all-put, if-zero, put-all}
-use Rattle.dictionary_layout.proofs.Equality.{same-term-refl}
+use Rattle.dictionary_layout.specs.Dictionary.{same-term, place-from, place-of, id-of, abstract-put, full, all-put, if-zero, put-all}
+use Rattle.dictionary_run_terms.proofs.Places.{place-stays, put-place}
 use Rattle.dictionary_layout.proofs.Holding.{Added, put-cases, Holds, holds-put}
 
 -- more terms behind these
@@ -47,57 +45,15 @@ put-all-grows tl al ts (t ∷ r) us e = go (abstract-put tl al ts t .number) e (
     go (suc n) e k = let z : _≡_ {A = ℕ} 0 1 = cc in absurd (omega arith)
 
 -- a term that is held keeps its id
-pub place-kept : (i : ℕ) (t : Term) (ts r : List Term) (j : ℕ) → place-from i t ts ≡ some j → place-from i t (ts ++ r) ≡ some j
-unfolding place-from
-place-kept i t [] r j e = let z : _≡_ {A = ℕ} 0 1 = cc in absurd (omega arith)
-place-kept i t (u ∷ ts) r j e = go (same-term t u) e (place-kept (suc i) t ts r j)
-  where
-    go : (b : Bool) → (if b (λ _. some i) (λ _. place-from (suc i) t ts)) ≡ some j
-        → (place-from (suc i) t ts ≡ some j → place-from (suc i) t (ts ++ r) ≡ some j)
-        → (if b (λ _. some i) (λ _. place-from (suc i) t (ts ++ r))) ≡ some j
-    go true e k = e
-    go false e k = k e
-
 abbrev pub Has : List Term → Term → Type 0
 Has ts t = (j : ℕ) × (place-from 0 t ts ≡ some j)
 
 pub has-kept : (ts us : List Term) (t : Term) → Grown ts us → Has ts t → Has us t
-has-kept ts us t g h = (h .0, ap (place-from 0 t) (g .1) ∙ place-kept 0 t ts (g .0) (h .0) (h .1))
-
-place-snoc : (i : ℕ) (t : Term) (ts : List Term) → (j : ℕ) × (place-from i t (ts ++ (t ∷ [])) ≡ some j)
-unfolding place-from
-place-snoc i t [] = (i, go (same-term t t) (same-term-refl t))
-  where
-    go : (b : Bool) → T b → (if b (λ _. some i) (λ _. none)) ≡ some i
-    go true h = refl
-    go false h = absurd h
-place-snoc i t (u ∷ ts) = go (same-term t u) (place-snoc (suc i) t ts)
-  where
-    go : (b : Bool) → (j : ℕ) × (place-from (suc i) t (ts ++ (t ∷ [])) ≡ some j)
-        → (j : ℕ) × ((if b (λ _. some i) (λ _. place-from (suc i) t (ts ++ (t ∷ [])))) ≡ some j)
-    go true k = (i, refl)
-    go false k = k
+has-kept ts us t g h = (h .0, ap (place-from 0 t) (g .1) ∙ place-stays 0 t ts (g .0) (h .0) (h .1))
 
 -- a put that was accepted: the term is held
 pub put-has : (tl al : ℕ) (ts : List Term) (t : Term) → abstract-put tl al ts t .number ≡ 0 → Has (abstract-put tl al ts t .held) t
-unfolding abstract-put
-put-has tl al ts t e = go (kind-known t) (short t) e
-  where
-    room : (b : Bool) → (if b (λ _. put-answer 0 (length ts) (ts ++ (t ∷ []))) (λ _. put-answer 7 0 ts)) .number ≡ 0
-        → Has ((if b (λ _. put-answer 0 (length ts) (ts ++ (t ∷ []))) (λ _. put-answer 7 0 ts)) .held) t
-    room true e = place-snoc 0 t ts
-    room false e = absurd (omega arith)
-
-    place : (q : Option ℕ) → place-from 0 t ts ≡ q → put-at tl al ts t q .number ≡ 0 → Has (put-at tl al ts t q .held) t
-    place (some i) f e = (i, f)
-    place none f e = room (roomy tl al ts t) e
-
-    go : (a b : Bool) → (if a (λ _. if b (λ _. put-at tl al ts t (place-from 0 t ts)) (λ _. put-answer 11 0 ts))
-        (λ _. put-answer 10 0 ts)) .number ≡ 0 → Has
-        ((if a (λ _. if b (λ _. put-at tl al ts t (place-from 0 t ts)) (λ _. put-answer 11 0 ts)) (λ _. put-answer 10 0 ts)) .held) t
-    go true true e = place (place-from 0 t ts) refl e
-    go true false e = absurd (omega arith)
-    go false b e = absurd (omega arith)
+put-has tl al ts t e = (abstract-put tl al ts t .id, put-place tl al ts t e)
 
 pub put-all-has : (tl al : ℕ) (ts r us : List Term) → put-all tl al ts r ≡ all-put us → (t : Term) → In t r → Has us t
 unfolding put-all
@@ -113,7 +69,7 @@ put-all-has tl al ts (u ∷ r) us e t i =
     go zero q e (inr j) k = k e j
     go (suc n) q e s k = let z : _≡_ {A = ℕ} 0 1 = cc in absurd (omega arith)
 
--- terms that can be held, with those all-put, can be held
+-- terms that can be held, with those put, can be held
 pub put-all-holds : (tl al : ℕ) (ts r us : List Term) → Holds tl al ts → put-all tl al ts r ≡ all-put us → Holds tl al us
 unfolding put-all
 put-all-holds tl al ts [] us h e = subst (Holds tl al) (cc) h
@@ -155,7 +111,7 @@ place-below i t (u ∷ ts) j e = go (same-term t u) e (place-below (suc i) t ts 
     go true e k = let f : i ≡ j = cc in omega arith
     go false e k = omega (arith, k e)
 
--- so is the id of a term that was all-put
+-- so is the id of a term that was put
 pub put-all-below : (tl al : ℕ) (ts r us : List Term) → put-all tl al ts r ≡ all-put us → (t : Term) → In t r
     → id-of (place-of t us) < length us
 put-all-below tl al ts r us e t i =

@@ -7,6 +7,7 @@ use Prim.Native.Nat.{ℕ, zero, suc, _+_, _*_, _%_, _≤_, _<_}
 use native.Mathlib.Omega.{arith}
 use lib.Dec.{T, ltb, eqb, eqb→eq, ltb→lt, lt→ltb}
 use lib.ListN.{length}
+use Rattle.common.specs.Sizes.{load-width, store-width, store-limit, finding-width, finding-limit, work-width, run-terms-count}
 use Rattle.common.specs.Triples.{Triple, In, here, there, all}
 use Rattle.store_rows.proofs.Cases.{le-or, true-false}
 use Rattle.engine_checks.specs.Findings.{Buffer}
@@ -14,18 +15,19 @@ use Rattle.dictionary_layout.specs.Terms.{Term, property-term, membership-term,
 use Rattle.dictionary_layout.specs.Layout.{Dict, layout, decode}
 use Rattle.dictionary_layout.specs.Dictionary.{place-of, id-of, All-put, full, all-put, put-all, valid}
 use Rattle.dictionary_layout.specs.Values.{contents}
-use Rattle.dictionary_run_terms.specs.Calls.{Run-terms-result, run-terms-result, run-terms-laid, run-terms-give, run-terms-left}
+use Rattle.dictionary_run_terms.specs.Calls.{ids-in, Run-terms-result, run-terms-result, run-terms-laid, run-terms-give, run-terms-left}
 use Rattle.dictionary_layout.specs.declared.values.Counters.{Counters}
+use Rattle.dictionary_run_terms.specs.declared.values.RunTermIds.{RunTermIds}
 use Rattle.dictionary_run_terms.specs.declared.values.RunTerms.{RunTerms}
 use Rattle.dictionary_layout.proofs.Choice.{if-yes, if-no}
 use Rattle.dictionary_layout.proofs.Decoding.{decode-layout}
 use Rattle.dictionary_layout.proofs.Holding.{Holds, valid→, valid-layout}
 use Rattle.dictionary_entries.proofs.Reading.{held, count}
-use Rattle.driver_load.specs.Lent.{Lent, Run-answer, outcome-answer, closed}
+use Rattle.driver_load.specs.Lent.{Lent, Run-answer, closed-answer}
 use Rattle.driver_run.specs.Run.{unchanged, Abstract-run-result, run-all-put, run-passed, abstract-run, Run-result, run-laid}
 use Rattle.driver_run.specs.Run.{run-gives}
 use Rattle.driver_refusals.specs.RunRefusals.{first-refusal, run-refusals}
-use Rattle.driver_load.specs.Loads.{Termed, Loaded}
+use Rattle.driver_load.specs.Loads.{Below, Termed, Loaded}
 use Rattle.driver_refusals.proofs.Refusing.{Unmet, unmet-all, not-not, all-in}
 use Rattle.driver_run.proofs.PuttingAll.{grown-length, put-all-grows, put-all-holds, put-all-few, put-all-below}
 
@@ -90,8 +92,7 @@ module _ (d : Dict) (b : Lent) (v : T (valid d)) where
             → (x .contents ≡ d) × (result (unchanged (x .number) b) d ≡ laid-out (run-all-put b ts w))
         go full h = (
           ap (λ (r : Run-terms-result). r .contents) h ∙ laid,
-          ap
-              (λ (r : Run-terms-result). result (unchanged (r .number) b) d) h ∙ ap (result (unchanged 7 b)) (sym laid),
+          ap (λ (r : Run-terms-result). result (unchanged (r .number) b) d) h ∙ ap (result (unchanged 7 b)) (sym laid),
         )
         go (all-put us) h = absurd (z (ap (λ (r : Run-terms-result). r .number) h))
 
@@ -99,8 +100,7 @@ module _ (d : Dict) (b : Lent) (v : T (valid d)) where
     pub record Held : Type 0 where
       pub terms : List Term
       pub puts-all : put-all tl al ts run-terms ≡ all-put terms
-      pub left : x ≡ run-terms-result 0 (id-of (place-of property-term terms)) (id-of (place-of membership-term terms))
-          (id-of (place-of member-term terms)) (layout tl al terms)
+      pub left : x ≡ run-terms-result 0 (ids-in terms) (layout tl al terms)
 
     pub held-then : x .number ≡ 0 → Held
     held-then z = go (put-all tl al ts run-terms) refl terms-laid
@@ -120,10 +120,10 @@ module _ (d : Dict) (b : Lent) (v : T (valid d)) where
       decoded = ap decode left ∙ decode-layout tl al (H .terms)
 
       -- an accepted run, or refusal 8 or 9
-      pub run-done : result (outcome-answer b (closed b (decode (x .contents)))) (x .contents) ≡ run-gives d b
+      pub run-done : result (closed-answer b (decode (x .contents))) (x .contents) ≡ run-gives d b
       run-done =
-          ap (λ (us : List Term). result (outcome-answer b (closed b us)) (x .contents)) decoded
-          ∙ ap (result (outcome-answer b (closed b (H .terms)))) left
+          ap (λ (us : List Term). result (closed-answer b us) (x .contents)) decoded
+          ∙ ap (result (closed-answer b (H .terms))) left
           ∙ ap (λ (w : All-put). laid-out (run-all-put b ts w)) (sym (H .puts-all))
           ∙ sym (gives e)
 
@@ -136,32 +136,27 @@ module _ (d : Dict) (b : Lent) (v : T (valid d)) where
       id-below : (t : Term) → In t run-terms → id-of (place-of t (H .terms)) < x .contents .terms
       id-below t i = omega (arith, counted, put-all-below tl al ts run-terms (H .terms) (H .puts-all) t i)
 
-      abbrev Id-is : Term → ℕ → Type 0
-      Id-is t i = (i ≡ id-of (place-of t (decode (x .contents)))) × (i < x .contents .terms)
-
-      id-is : (t : Term) → In t run-terms → {i : ℕ} → i ≡ id-of (place-of t (H .terms)) → Id-is t i
-      id-is t m q = (q ∙ ap (λ (us : List Term). id-of (place-of t us)) (sym decoded), omega (arith, id-below t m))
+      ids-below : (r : RunTermIds) → r ≡ ids-in (H .terms) → Below r (x .contents .terms)
+      unfolding run-terms
+      ids-below r e = record {
+        property = omega (arith, ap (λ (i : RunTermIds). i .property .0) e, id-below property-term (here refl));
+        membership = omega (arith, ap (λ (i : RunTermIds). i .membership .0) e, id-below membership-term (there (here refl)));
+        member = omega (arith, ap (λ (i : RunTermIds). i .member .0) e, id-below member-term (there (there (here refl))));
+      }
 
       -- WHAT THE CLOSING IS TOLD of the dictionary
       pub termed : (r : RunTerms) {table arena : List ℕ} → run-terms-left r table arena ≡ x → Termed table arena r
-      unfolding run-terms
       termed r {table} {arena} q =
-          let f = q ∙ H .left in
-          let p₁ = id-is property-term (here refl) (ap (λ (y : Run-terms-result). y .property) f) in
-          let p₂ = id-is membership-term (there (here refl)) (ap (λ (y : Run-terms-result). y .membership) f) in
-          let p₃ = id-is member-term (there (there (here refl))) (ap (λ (y : Run-terms-result). y .member) f) in
+          let e : r .ids ≡ ids-in (H .terms) = ap (λ (y : Run-terms-result). y .ids) (q ∙ H .left) in
           let c : x .contents ≡ contents table arena (r .counters) = sym (ap (λ (y : Run-terms-result). y .contents) q) in
           record {
             sound = subst (λ (k : Dict). T (valid k)) c still-valid;
-            property = subst (λ (k : Dict). r .property .0 ≡ id-of (place-of property-term (decode k))) c (p₁ .0);
-            membership = subst (λ (k : Dict). r .membership .0 ≡ id-of (place-of membership-term (decode k))) c (p₂ .0);
-            member = subst (λ (k : Dict). r .member .0 ≡ id-of (place-of member-term (decode k))) c (p₃ .0);
-            below = subst (λ (k : Dict). (r .property .0 < k .terms) × (r .membership .0 < k .terms)
-                × (r .member .0 < k .terms)) c (p₁ .1, p₂ .1, p₃ .1);
+            ids = e ∙ ap ids-in (sym decoded ∙ ap decode c);
+            below = subst (λ (k : Dict). Below (r .ids) (k .terms)) c (ids-below (r .ids) e);
           }
 
       -- and of load and buffers
-      few-more : x .contents .terms ≤ d .terms + 3
+      few-more : x .contents .terms ≤ d .terms + run-terms-count
       unfolding run-terms
       few-more = omega (arith, counted, count d v, put-all-few tl al ts run-terms (H .terms) (H .puts-all))
 
@@ -173,40 +168,41 @@ module _ (d : Dict) (b : Lent) (v : T (valid d)) where
 
       pub loaded : Loaded (b .load) (b .store) (b .work) (x .contents .terms)
       loaded = record {
-        whole = eqb→eq (length (b .load) % 3) 0 (not-not (eqb (length (b .load) % 3) 0) (passed .0));
-        few = not-above (3 * 65535) (length (b .store)) (passed .1 .1 .1 .0);
-        room = omega (arith, few-more, not-above (length (b .work)) (2 * (d .terms + 3)) (passed .1 .1 .1 .1 .1 .1 .0));
+        whole = eqb→eq (length (b .load) % load-width) 0 (not-not (eqb (length (b .load) % load-width) 0) (passed .0));
+        few = not-above (store-width * store-limit) (length (b .store)) (passed .1 .1 .1 .0);
+        room = omega (
+          arith,
+          few-more,
+          not-above (length (b .work)) (work-width * (d .terms + run-terms-count))
+              (passed .1 .1 .1 .1 .1 .1 .0),
+        );
         known = λ t i. known t (all-in (λ j. ltb j (d .terms)) (b .load)
             (not-not (all (λ j. ltb j (d .terms)) (b .load)) (passed .1 .1 .1 .1 .1 .1 .1 .1 .0)) t i);
       }
         where
           known : (t : Triple) → T (ltb (t .s) (d .terms)) × T (ltb (t .p) (d .terms)) × T (ltb (t .o) (d .terms))
               → (t .s < x .contents .terms) × (t .p < x .contents .terms) × (t .o < x .contents .terms)
-          known t k = (
-            omega (arith, more, ltb→lt (t .s) (d .terms) (k .0)),
-            omega (arith, more, ltb→lt (t .p) (d .terms) (k .1)),
-            omega
-                (arith, more, ltb→lt (t .o) (d .terms) (k .2)),
-          )
+          known t k = (below (t .s) (k .0), below (t .p) (k .1), below (t .o) (k .2))
+            where
+              below : (i : ℕ) → T (ltb i (d .terms)) → i < x .contents .terms
+              below i h = omega (arith, more, ltb→lt i (d .terms) h)
 
       pub buffer : Buffer (b .findings)
       buffer = record {
-        whole = eqb→eq (length (b .findings) % 5) 0 (not-not (eqb (length (b .findings) % 5) 0) (passed .1 .1 .1 .1 .0));
-        few = not-above (5 * 65535) (length (b .findings)) (passed .1 .1 .1 .1 .1 .0);
+        whole = eqb→eq (length (b .findings) % finding-width) 0
+            (not-not (eqb (length (b .findings) % finding-width) 0) (passed .1 .1 .1 .1 .0));
+        few = not-above (finding-width * finding-limit) (length (b .findings)) (passed .1 .1 .1 .1 .1 .0);
       }
 
 -- the same table and arena, with the counters as they were
 pub same-contents : {t t' a a' : List ℕ} {c c' : Counters} → contents t' a' c' ≡ contents t a c → contents t' a' c ≡ contents t a c
 same-contents {c = c} e = let f = ap (λ (d : Dict). d .table) e in let g = ap (λ (d : Dict). d .arena) e in λ i. contents (f i) (g i) c
 
--- what the code was same-value, in the definitions' terms
-pub same-value : {A : Type 0} (r v b : A) → r ≡ v → r ≡ b → v ≡ b
-same-value r v b e f = sym e ∙ f
+-- what the code's test says of the dictionary
+pub valid-by : {r : Bool} (d : Dict) → not r ≡ false → r ≡ valid d → T (valid d)
+valid-by {r = true} d e f = subst T f tt
+valid-by {r = false} d e f = true-false e
 
-pub not-true→false : (r b : Bool) → not r ≡ true → r ≡ b → false ≡ b
-not-true→false true b e f = true-false (sym e)
-not-true→false false b e f = f
-
-pub not-false→true : (r b : Bool) → not r ≡ false → r ≡ b → true ≡ b
-not-false→true true b e f = f
-not-false→true false b e f = true-false e
+pub broken-by : {r : Bool} (d : Dict) → not r ≡ true → r ≡ valid d → T (valid d) → ⊥
+broken-by {r = true} d e f h = true-false (sym e)
+broken-by {r = false} d e f h = subst T (sym f) h

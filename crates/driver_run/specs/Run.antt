@@ -7,7 +7,7 @@ use Rattle.dictionary_layout.specs.Terms.{Term, run-terms}
 use Rattle.dictionary_layout.specs.Layout.{Dict, layout}
 use Rattle.dictionary_layout.specs.Dictionary.{All-put, full, all-put, put-all}
 use Rattle.dictionary_layout.specs.Calls.{on-valid}
-use Rattle.driver_load.specs.Lent.{Lent, Run-answer, five-zeros, outcome-answer, closed}
+use Rattle.driver_load.specs.Lent.{Lent, Run-answer, five-zeros, closed-answer}
 use Rattle.driver_refusals.specs.RunRefusals.{first-refusal, run-refusals}
 
 -- refused, with no buffer changed
@@ -22,7 +22,7 @@ pub record Abstract-run-result : Type 0 where
 -- refusal 7 where there is no room for the run's three terms
 abbrev pub run-all-put : Lent → List Term → All-put → Abstract-run-result
 run-all-put b ts full = record { answer = unchanged 7 b; held = ts }
-run-all-put b ts (all-put us) = record { answer = outcome-answer b (closed b us); held = us }
+run-all-put b ts (all-put us) = record { answer = closed-answer b us; held = us }
 
 abbrev pub run-passed : ℕ → ℕ → ℕ → List Term → Lent → Abstract-run-result
 run-passed zero tl al ts b = run-all-put b ts (put-all tl al ts run-terms)

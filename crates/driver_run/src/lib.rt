@@ -5,27 +5,22 @@ use dictionary_index::Counters;
 use dictionary_index::is_valid;
 use dictionary_run_terms::put_run_terms;
 pub use driver_load::RunAnswer;
+use driver_load::refused_answer;
 use driver_load::run_load;
-use driver_refusals::refusal;
+use driver_refusals::run_refusal;
 pub use values::RunNext;
 ghost use mathlib.Core.Path.{_≡_};
 ghost use Rattle.dictionary_layout.specs.Values.{contents};
-ghost use Rattle.driver_load.specs.Lent.{five-zeros, lent};
+ghost use Rattle.driver_load.specs.Values.{refused-answer};
 ghost use Rattle.driver_run.specs.Run.{run-gives};
-ghost use Rattle.driver_run.specs.Values.{run-left};
+ghost use Rattle.driver_run.specs.Values.{run-leaves};
 
 // A refusal that changes nothing.
-fn refused(number: u32, counters: Counters) -> RunNext
-    ensures { λ r. ⌜ r ≡ record { answer = record { number = number; count = 0; counts = five-zeros }; counters = counters } ⌝ }
+fn refused_run(number: u32, counters: Counters) -> RunNext
+    ensures { λ r. ⌜ r ≡ record { answer = refused-answer number; counters = counters } ⌝ }
 {
-    RunNext {
-        answer: RunAnswer {
-            number,
-            count: 0,
-            counts: [0; 5],
-        },
-        counters,
-    }
+    let answer = refused_answer(number);
+    RunNext { answer, counters }
 }
 
 // Closes a load: the answer in the store, the findings, their counts. The counters as they are afterwards are returned.
@@ -38,18 +33,21 @@ pub fn run(
     findings: &mut [u32],
     work: &mut [u32],
 ) -> RunNext
-    ensures { λ r. ⌜ run-left r (now (table .exit)) (now (arena .exit)) (now (store .exit)) (now (findings .exit)) (now (work .exit)) ≡ run-gives (contents (now (table .entry)) (now (arena .entry)) counters) (lent (now (load .entry)) (now (store .entry)) (now (findings .entry)) (now (work .entry))) ⌝ }
+    ensures { λ r. ⌜ run-leaves r (now (table .exit)) (now (arena .exit))
+        (record { load = now (load .entry); store = now (store .exit); findings = now (findings .exit); work = now (work .exit) })
+        ≡ run-gives (contents (now (table .entry)) (now (arena .entry)) counters)
+        (record { load = now (load .entry); store = now (store .entry); findings = now (findings .entry); work = now (work .entry) }) ⌝ }
 {
     if !is_valid(&*table, &*arena, counters) {
-        return refused(1, counters);
+        return refused_run(1, counters);
     }
-    let number = refusal(load, &*store, &*findings, &*work, counters.terms);
+    let number = run_refusal(load, &*store, &*findings, &*work, counters.terms);
     if number != 0 {
-        return refused(number, counters);
+        return refused_run(number, counters);
     }
     let terms = put_run_terms(&mut *table, &mut *arena, counters);
     if terms.number != 0 {
-        return refused(terms.number, counters);
+        return refused_run(terms.number, counters);
     }
     let answer = run_load(
         load,

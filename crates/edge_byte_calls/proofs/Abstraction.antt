@@ -13,8 +13,7 @@ use Rattle.meaning.specs.Run.{Outcome, store-full, findings-full, accepted}
 use Rattle.dictionary_layout.specs.Terms.{Term, start-terms, run-terms}
 use Rattle.dictionary_layout.specs.Layout.{Dict, dict, chain, size, layout}
 use Rattle.dictionary_layout.specs.Dictionary.{Put-answer, abstract-put, All-put, full, all-put, put-all, Lookup-answer, lookup-answer}
-use Rattle.dictionary_layout.specs.Dictionary.{term-of}
-use Rattle.dictionary_layout.specs.Dictionary.{abstract-lookup}
+use Rattle.dictionary_layout.specs.Dictionary.{term-of, abstract-lookup}
 use Rattle.dictionary_layout.specs.Calls.{start-gives, Put-result, put-result, put-laid, put-gives, lookup-gives}
 use Rattle.dictionary_layout.proofs.Chains.{prev, table-entry}
 use Rattle.dictionary_layout.proofs.Holding.{Added, put-cases, Holds, sized→}
@@ -28,15 +27,15 @@ use Rattle.driver_calls.specs.Calls.{Call, put, lookup, run-on, abstract-call, 
 use Rattle.driver_calls.proofs.Abstraction.{abstract-holds}
 use Rattle.edge_bytes.specs.Bytes.{bytes-of, read-buffer, changes, left-bytes}
 use Rattle.edge_bytes.proofs.Coding.{changes-0, left-written}
-use Rattle.edge_c.specs.Calls.{left-dict, start-bytes-give, put-in-bytes, put-bytes-give, Place-answer, place-at, place-gives, read-lent}
-use Rattle.edge_c.specs.Calls.{run-in-bytes, run-bytes-give}
+use Rattle.edge_c.specs.Calls.{left-dict, start-bytes-give, put-in-bytes, put-bytes-give, Place-answer, place-at, place-gives}
+use Rattle.edge_c.specs.Calls.{read-lent, run-in-bytes, run-bytes-give}
 use Rattle.edge_c.proofs.Forwarding.{length-numbers, read-whole, read-ragged}
 use Rattle.edge_byte_calls.specs.ByteCalls.{Byte-out, put-out, place-out, run-out, Byte-left, byte-call-gives, byte-event}
-use Rattle.edge_byte_calls.specs.ByteCalls.{Byte-list-left, byte-calls-give, read-call, abstract-place, abstract-out, byte-events-of}
-use Rattle.edge_byte_calls.specs.ByteCalls.{dict-in-bytes, byte-abstract-from}
+use Rattle.edge_byte_calls.specs.ByteCalls.{Byte-list-left, byte-calls-give, read-call, abstract-place, abstract-out}
+use Rattle.edge_byte_calls.specs.ByteCalls.{byte-events-of, dict-in-bytes, byte-abstract-from}
 use Rattle.edge_byte_calls.proofs.Fitting.{read-back}
 
--- the terms held before and after a call that answered n: a call that changes no buffer puts-all no term
+-- the terms held before and after a call that answered n: a call that changes no buffer puts no term
 abbrev Kept : List Term → ℕ → List Term → Type 0
 Kept ts n us = (us ≡ ts) ⊎ (true ≡ changes n)
 
@@ -127,18 +126,18 @@ byte-call-abstract tl al ts (put t) h =
     let d = layout tl al ts in
     let p = abstract-put tl al ts t in
     ap (λ (r : Put-result). let a = put-in-bytes (bytes-of (d .table)) r in left (put-out (a .number) (a .id)) (a .contents))
-    (ap (λ (x : Dict). put-gives x t) (read-back tl al ts h) ∙ on-layout tl al ts (put-laid t) (λ _. put-result 1 0 d) h)
+    (ap (λ (x : Dict). put-gives x t) (read-back h) ∙ on-layout tl al ts (put-laid t) (λ _. put-result 1 0 d) h)
     ∙ ap (left (put-out (p .number) (p .id))) (left-laid tl al ts (p .number) (p .held) (put-kept tl al ts t))
 byte-call-abstract tl al ts (lookup i) h =
     let d = layout tl al ts in
     ap (λ (p : Place-answer). left (place-out p) (dict-in-bytes d))
-    (ap (λ (x : Dict). place-gives x i) (read-back tl al ts h) ∙ place-abstract tl al ts i h)
+    (ap (λ (x : Dict). place-gives x i) (read-back h) ∙ place-abstract tl al ts i h)
 byte-call-abstract tl al ts (run-on b) h =
     let d = layout tl al ts in
     let m = read-lent b in
     let r = abstract-run tl al ts m in
     ap (λ (x : Run-result). let a = run-in-bytes (bytes-of (d .table)) b x in left (run-out (a .answer)) (a .contents))
-    (ap (λ (x : Dict). run-gives x m) (read-back tl al ts h)
+    (ap (λ (x : Dict). run-gives x m) (read-back h)
     ∙ on-layout tl al ts (run-laid m) (λ _. record { answer = unchanged 1 m; contents = d }) h)
     ∙ ap (left (abstract-out tl al ts (run-on b))) (left-laid tl al ts (r .answer .number) (r .held) (run-kept tl al ts m))
 

@@ -7,6 +7,7 @@ use native.Mathlib.Omega.{arith}
 use lib.Dec.{ltb, ltb→lt}
 use lib.ListN.{length, take, replicate}
 use lib.Seq.{take-at}
+use Rattle.common.specs.Sizes.{store-width, finding-width}
 use Rattle.common.specs.Triples.{Triple, triple, Finding, In, here, there}
 use Rattle.meaning.specs.Rules.{Graph, Found, cax-dw, prp-irp, prp-asyp, prp-pdw, cls-nothing2}
 use Rattle.meaning.specs.Containers.{Containers}
@@ -34,7 +35,7 @@ use Rattle.edge_bytes.specs.Bytes.{bytes-of, Fit-bytes, read-buffer, left-bytes
 use Rattle.edge_bytes.proofs.Coding.{changes-0, left-written}
 use Rattle.edge_bytes.proofs.RoundTrip.{read-bytes, bytes-take, bytes-append, fit-append, fit-zeros}
 use Rattle.edge_c.specs.Calls.{answer-in-bytes}
-use Rattle.edge_byte_calls.specs.Demand3.{read-answer, Next-load}
+use Rattle.edge_byte_calls.specs.Demand3.{read-answer, triple-bytes, Next-load}
 use Rattle.edge_byte_calls.proofs.Fitting.{some, few}
 
 -- rows of triples and of findings whose ids are below 2 ^ 32
@@ -64,7 +65,7 @@ found-each P S z f (prp-pdw h j k l m n o) = (f _ _ _ j .0, f _ _ _ j .2, f _ _ 
 found-each P S z f (cls-nothing2 h n) = (f _ _ _ h .0, z, z, z)
 
 -- AN ACCEPTED RUN over numbers
-module _ (tl al : ℕ) (ts : List Term) (h : Holds tl al ts) (b : Lent) (l : Abstract-run-result) (a : AcceptedRun tl al ts b l) where
+module _ {tl al : ℕ} {ts : List Term} (h : Holds tl al ts) {b : Lent} {l : Abstract-run-result} (a : AcceptedRun tl al ts b l) where
   abbrev us : List Term
   us = a .terms
 
@@ -72,13 +73,16 @@ module _ (tl al : ℕ) (ts : List Term) (h : Holds tl al ts) (b : Lent) (l : Abs
   c = containers us
 
   abbrev cap : ℕ
-  cap = length (b .store) / 3
+  cap = length (b .store) / store-width
+
+  abbrev finding-cap : ℕ
+  finding-cap = length (b .findings) / finding-width
 
   abbrev rows : List Triple
   rows = closure c (suc cap) (triples (b .load))
 
-  accepted-run : Accepted c cap (length (b .findings) / 5) (triples (b .load)) (a .answer) (a .row) (a .n) (a .k)
-  accepted-run = accepted→ c cap (length (b .findings) / 5) (triples (b .load)) (a .answer) (a .row) (a .n) (a .k) (a .runs)
+  accepted-run : Accepted c cap finding-cap (triples (b .load)) (a .answer) (a .row) (a .n) (a .k)
+  accepted-run = accepted→ c cap finding-cap (triples (b .load)) (a .answer) (a .row) (a .n) (a .k) (a .runs)
 
   held : Holds tl al us
   held = put-all-holds tl al ts run-terms us h (a .puts-all)
@@ -95,7 +99,7 @@ module _ (tl al : ℕ) (ts : List Term) (h : Holds tl al ts) (b : Lent) (l : Abs
   closure-known : Sub (Closure c (triples (b .load))) (Each (λ i. i < length us))
   unfolding containers run-terms
   closure-known =
-      closure-below c (triples (b .load)) (length us) (some tl al us held) load-known
+      closure-below c (triples (b .load)) (length us) (some held) load-known
       (put-known property-term (here refl))
       (put-known membership-term (there (here refl)))
       (put-known member-term (there (there (here refl))))
@@ -103,7 +107,7 @@ module _ (tl al : ℕ) (ts : List Term) (h : Holds tl al ts) (b : Lent) (l : Abs
   ids : Sub (graph-of rows) (Each Id)
   ids x y z i =
       let (p, q, r) = closure-known x y z (computed→ c (suc cap) (triples (b .load)) x y z i) in
-      let n = few tl al us held in
+      let n = few held in
       (omega arith, omega arith, omega arith)
 
   fit-answer : Fit-bytes (flat (a .answer))
@@ -128,25 +132,26 @@ module _ (tl al : ℕ) (ts : List Term) (h : Holds tl al ts) (b : Lent) (l : Abs
   fit-work = subst (λ (o : Run-answer). Fit-bytes (o .work)) (sym (a .gives)) (fit-zeros (length (b .work)))
 
   -- the triples that it left stand first in the store, so their bytes, and then those of B, are a load of its answer with B
-  left-first : take (3 * l .answer .count) (l .answer .store) ≡ flat (a .answer)
+  left-first : take (store-width * l .answer .count) (l .answer .store) ≡ flat (a .answer)
   left-first =
       let N = flat (a .answer) in
-      let k : length N ≡ 3 * a .n = omega (arith, length-flat (a .answer), accepted-run .count) in
-      ap (λ (o : Run-answer). take (3 * o .count) (o .store)) (a .gives)
-      ∙ take-at N (replicate (length (b .store) - length N) 0) (3 * a .n) k
+      let k : length N ≡ store-width * a .n = omega (arith, length-flat (a .answer), accepted-run .count) in
+      ap (λ (o : Run-answer). take (store-width * o .count) (o .store)) (a .gives)
+      ∙ take-at N (replicate (length (b .store) - length N) 0) (store-width * a .n) k
 
   answered : answer (l .answer) ≡ a .answer
   answered =
       ap answer (a .gives)
-      ∙ answer-of-accepted c b cap (length (b .findings) / 5) (triples (b .load)) (a .answer) (a .row) (a .n) (a .k) (a .runs)
+      ∙ answer-of-accepted c b cap finding-cap (triples (b .load)) (a .answer) (a .row) (a .n) (a .k) (a .runs)
 
   load-again : (B : List Triple) → Fit-bytes (flat B)
-      → triples (read-buffer (take (12 * l .answer .count) (bytes-of (l .answer .store)) ++ bytes-of (flat B))) ≡ answer (l .answer) ++ B
+      → triples (read-buffer (take (triple-bytes * l .answer .count) (bytes-of (l .answer .store)) ++ bytes-of (flat B)))
+      ≡ answer (l .answer) ++ B
   load-again B f =
       let o = l .answer in
       let N = flat (a .answer) in
-      let k : 12 * o .count ≡ 4 * (3 * o .count) = omega arith in
-      let p = ap (λ (j : ℕ). take j (bytes-of (o .store))) k ∙ (bytes-take (3 * o .count) (o .store) ∙ ap bytes-of left-first) in
+      let k : triple-bytes * o .count ≡ 4 * (store-width * o .count) = omega arith in
+      let p = ap (λ (j : ℕ). take j (bytes-of (o .store))) k ∙ (bytes-take (store-width * o .count) (o .store) ∙ ap bytes-of left-first) in
       ap (λ (x : List ℕ). triples (read-buffer (x ++ bytes-of (flat B)))) p
       ∙ (ap (λ (x : List ℕ). triples (read-buffer x)) (sym (bytes-append N (flat B)))
       ∙ (ap triples (read-bytes (N ++ flat B) (fit-append N (flat B) fit-answer f))
@@ -157,24 +162,24 @@ read-left : (n : ℕ) (b l : List ℕ) → n ≡ 0 → Fit-bytes l → read-buff
 read-left n b l e f = sym (ap read-buffer (left-written n b l (changes-0 n e) refl)) ∙ read-bytes l f
 
 -- THE ANSWER OF AN ACCEPTED RUN is read back from the bytes that it left: b are its buffers of bytes, m what it read in them
-pub answer-read : (tl al : ℕ) (ts : List Term) → Holds tl al ts → (b m : Lent) → abstract-run tl al ts m .answer .number ≡ 0
+pub answer-read : {tl al : ℕ} {ts : List Term} → Holds tl al ts → (b m : Lent) → abstract-run tl al ts m .answer .number ≡ 0
     → read-answer (answer-in-bytes b (abstract-run tl al ts m .answer)) ≡ abstract-run tl al ts m .answer
-answer-read tl al ts h b m e =
+answer-read {tl} {al} {ts} h b m e =
     let r = abstract-run tl al ts m in
     let o = r .answer in
     let a = run-accepted tl al ts m e in
-    let s = read-left (o .number) (b .store) (o .store) e (fit-store tl al ts h m r a) in
-    let f = read-left (o .number) (b .findings) (o .findings) e (fit-findings tl al ts h m r a) in
-    let w = read-left (o .number) (b .work) (o .work) e (fit-work tl al ts h m r a) in
+    let s = read-left (o .number) (b .store) (o .store) e (fit-store h a) in
+    let f = read-left (o .number) (b .findings) (o .findings) e (fit-findings h a) in
+    let w = read-left (o .number) (b .work) (o .work) e (fit-work h a) in
     λ i. record { number = o .number; count = o .count; counts = o .counts; store = s i; findings = f i; work = w i }
 
 -- and can be loaded again
-pub answer-loads : (tl al : ℕ) (ts : List Term) → Holds tl al ts → (b m : Lent) → abstract-run tl al ts m .answer .number ≡ 0
+pub answer-loads : {tl al : ℕ} {ts : List Term} → Holds tl al ts → (b m : Lent) → abstract-run tl al ts m .answer .number ≡ 0
     → Next-load (answer-in-bytes b (abstract-run tl al ts m .answer))
-answer-loads tl al ts h b m e B f =
+answer-loads {tl} {al} {ts} h b m e B f =
     let r = abstract-run tl al ts m in
     let o = r .answer in
     let w = left-written (o .number) (b .store) (o .store) (changes-0 (o .number) e) refl in
-    ap (λ (x : List ℕ). triples (read-buffer (take (12 * o .count) x ++ bytes-of (flat B)))) (sym w)
-    ∙ (load-again tl al ts h m r (run-accepted tl al ts m e) B f
-    ∙ ap (λ (x : Run-answer). answer x ++ B) (sym (answer-read tl al ts h b m e)))
+    ap (λ (x : List ℕ). triples (read-buffer (take (triple-bytes * o .count) x ++ bytes-of (flat B)))) (sym w)
+    ∙ (load-again h (run-accepted tl al ts m e) B f
+    ∙ ap (λ (x : Run-answer). answer x ++ B) (sym (answer-read h b m e)))

@@ -56,7 +56,7 @@ module _ (table arena : List ℕ) (s : start-bytes-give table arena .number ≡ 
   named : terms-named table arena cs ≡ ws
   named =
       ap (λ (l : Byte-list-left). decode (read-dict (l .contents))) abstract-list
-      ∙ (ap decode (read-back tl al ws (calls-hold tl al start-terms ns (starts table arena s))) ∙ decode-layout tl al ws)
+      ∙ (ap decode (read-back (calls-hold tl al start-terms ns (starts table arena s))) ∙ decode-layout tl al ws)
 
   -- the list read as numbers names the same terms
   abbrev given : List-left

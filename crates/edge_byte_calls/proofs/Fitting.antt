@@ -6,6 +6,7 @@ use Prim.Native.Nat.{ℕ, zero, suc, _+_, _*_, _-_, _≤_, _<_}
 use native.Mathlib.Omega.{arith}
 use lib.Dec.{leb, eqb, leb→le}
 use lib.ListN.{length, replicate}
+use Rattle.common.specs.Sizes.{heads-width, entry-width, entry-limit, arena-limit}
 use Rattle.common.specs.Triples.{In, here, there, if}
 use Rattle.common.proofs.Lists.{and→}
 use Rattle.dictionary_layout.specs.Terms.{Term}
@@ -39,7 +40,7 @@ front-low H c i h k x = go (eqb x c)
 abbrev Known : List Term → Type 0
 Known ts = (t : Term) → In t ts → t .kind ≤ 3
 
-fit-entries : (H : ℕ → ℕ) (i at : ℕ) (ts : List Term) → Low H → i + length ts ≤ 65535 → at + size ts ≤ 1048576 → Known ts
+fit-entries : (H : ℕ → ℕ) (i at : ℕ) (ts : List Term) → Low H → i + length ts ≤ entry-limit → at + size ts ≤ arena-limit → Known ts
     → Fit-bytes (entries H i at ts)
 unfolding entries
 fit-entries H i at [] h n s k = tt
@@ -50,23 +51,23 @@ fit-entries H i at (t ∷ ts) h n s k =
     let rest = fit-entries (front H (chain t) i) (suc i) next ts low (omega arith) (omega arith) (λ u j. k u (there j)) in
     (omega arith, (omega arith, (omega arith, (h (chain t), rest))))
 
-fit-all-entries : (ts : List Term) → length ts ≤ 65535 → size ts ≤ 1048576 → Known ts → Fit-bytes (all-entries ts)
+fit-all-entries : (ts : List Term) → length ts ≤ entry-limit → size ts ≤ arena-limit → Known ts → Fit-bytes (all-entries ts)
 fit-all-entries [] n s k = tt
 fit-all-entries (t ∷ ts) n s k =
     let kind = k t (here refl) in
     let rest = fit-entries (λ c. 0) 1 (length (t .bytes)) ts (λ c. omega arith) (omega arith) (omega arith) (λ u j. k u (there j)) in
     (omega arith, (omega arith, (omega arith, (omega arith, rest))))
 
-module _ (tl al : ℕ) (ts : List Term) (h : Holds tl al ts) where
+module _ {tl al : ℕ} {ts : List Term} (h : Holds tl al ts) where
   pub some : 31 ≤ length ts
   unfolding layout
   some = lengths (layout tl al ts) (valid-layout tl al ts h) .some
 
-  pub few : length ts ≤ 65535
+  pub few : length ts ≤ entry-limit
   unfolding layout
   few = lengths (layout tl al ts) (valid-layout tl al ts h) .few
 
-  short : size ts ≤ 1048576
+  short : size ts ≤ arena-limit
   unfolding layout
   short = let l = lengths (layout tl al ts) (valid-layout tl al ts h) in omega (arith, l .bytes, l .arena)
 
@@ -76,9 +77,9 @@ module _ (tl al : ℕ) (ts : List Term) (h : Holds tl al ts) where
   fit-table : Fit-bytes (layout tl al ts .table)
   unfolding layout
   fit-table =
-      let unused = tl - (64 + 4 * length ts) in
-      fit-append (span 64 0 (all-heads ts)) (all-entries ts ++ replicate unused 0)
-      (fit-span 64 0 (all-heads ts) (λ c. omega (arith, all-heads-prev ts c, prev-below ts c (length ts), few)))
+      let unused = tl - (heads-width + entry-width * length ts) in
+      fit-append (span heads-width 0 (all-heads ts)) (all-entries ts ++ replicate unused 0)
+      (fit-span heads-width 0 (all-heads ts) (λ c. omega (arith, all-heads-prev ts c, prev-below ts c (length ts), few)))
       (fit-append (all-entries ts) (replicate unused 0) (fit-all-entries ts few short known) (fit-zeros unused))
 
   -- the dictionary, with its table as bytes, is read back

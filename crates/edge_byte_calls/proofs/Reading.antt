@@ -38,11 +38,11 @@ pub record Occurs (tl al : ℕ) (ts : List Term) (cs : List Call) (e : Byte-even
   pub read : In (event (read-call (e .call)) (abstract-call tl al before (read-call (e .call)) .out))
       (events-of tl al ts (map read-call cs))
 
-occurs : (tl al : ℕ) (ts : List Term) (cs : List Call) → Holds tl al ts → (e : Byte-event) → In e (byte-events-of tl al ts cs)
+occurs : {tl al : ℕ} {ts : List Term} (cs : List Call) → Holds tl al ts → (e : Byte-event) → In e (byte-events-of tl al ts cs)
     → Occurs tl al ts cs e
 unfolding byte-events-of events-of terms-after
-occurs tl al ts [] h e i = absurd (in-nil i)
-occurs tl al ts (c ∷ cs) h e i = go (in-cons i) (occurs tl al us cs (abstract-holds tl al ts (read-call c) h) e)
+occurs [] h e i = absurd (in-nil i)
+occurs {tl} {al} {ts} (c ∷ cs) h e i = go (in-cons i) (occurs cs (abstract-holds tl al ts (read-call c) h) e)
   where
     us : List Term
     us = abstract-call tl al ts (read-call c) .held
@@ -107,7 +107,7 @@ module _ (tl al : ℕ) (ts : List Term) (cs : List Call) (h : Holds tl al ts) wh
   -- REFUSAL 1 is never computed
   pub byte-events-unbroken : (e : Byte-event) → In e (byte-events-of tl al ts cs) → byte-number-of (e .out) ≢ 1
   byte-events-unbroken e i n =
-      let o = occurs tl al ts cs h e i in
+      let o = occurs cs h e i in
       let us = o .before in
       never-1 tl al us (read-call (e .call)) (sym (same-number tl al us (e .call)) ∙ (sym (ap byte-number-of (o .gave)) ∙ n))
 
@@ -116,15 +116,15 @@ module _ (tl al : ℕ) (ts : List Term) (cs : List Call) (h : Holds tl al ts) wh
       → In (event (run-on (read-lent b)) (run-gave (read-answer o))) (events-of tl al ts (map read-call cs)) × Next-load o
   unfolding abstract-out abstract-call
   run-read b o i n =
-      let x = occurs tl al ts cs h (byte-event (run-on b) (run-out o)) i in
+      let x = occurs cs h (byte-event (run-on b) (run-out o)) i in
       let m = read-lent b in
       let a = abstract-run tl al (x .before) m .answer in
       let f : run-out o ≡ run-out (answer-in-bytes b a) = x .gave in
       let q : o ≡ answer-in-bytes b a = cc in
       let z : a .number ≡ 0 = sym (ap (λ (r : Run-answer). r .number) q) ∙ n in
-      let r : read-answer o ≡ a = ap (λ (y : Run-answer). read-answer y) q ∙ answer-read tl al (x .before) (x .holds) b m z in (
+      let r : read-answer o ≡ a = ap (λ (y : Run-answer). read-answer y) q ∙ answer-read (x .holds) b m z in (
         subst (λ (y : Run-answer). In (event (run-on m) (run-gave y)) (events-of tl al ts (map read-call cs))) (sym r) (x .read),
-        subst (λ (y : Run-answer). Next-load y) (sym q) (answer-loads tl al (x .before) (x .holds) b m z),
+        subst (λ (y : Run-answer). Next-load y) (sym q) (answer-loads (x .holds) b m z),
       )
 
   -- AN ACCEPTED LOOKUP
@@ -132,7 +132,7 @@ module _ (tl al : ℕ) (ts : List Term) (cs : List Call) (h : Holds tl al ts) wh
       → Placed (terms-after tl al ts (map read-call cs)) i p
   unfolding abstract-out
   place-read i p j n =
-      let x = occurs tl al ts cs h (byte-event (lookup i) (place-out p)) j in
+      let x = occurs cs h (byte-event (lookup i) (place-out p)) j in
       let us = x .before in
       let f : place-out p ≡ place-out (abstract-place us i) = x .gave in
       let q : p ≡ abstract-place us i = cc in

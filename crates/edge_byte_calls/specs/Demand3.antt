@@ -6,6 +6,7 @@ use mathlib.Core.Logic.{_≢_}
 use mathlib.Core.List.{List, _++_}
 use Prim.Native.Nat.{ℕ, _*_}
 use lib.ListN.{length, take, drop}
+use Rattle.common.specs.Sizes.{store-width}
 use Rattle.common.specs.Triples.{Triple, In}
 use Rattle.common.specs.Rows.{flat, triples}
 use Rattle.meaning.specs.Batch.{Same, Conditions}
@@ -35,11 +36,15 @@ read-answer o = record {
 abbrev pub loaded : Lent → List Triple
 loaded b = triples (read-buffer (b .load))
 
--- the bytes of the triples that a run left, 12 each, and then those of any B are a load of the run's answer with B
+-- the bytes of a triple
+abbrev pub triple-bytes : ℕ
+triple-bytes = 4 * store-width
+
+-- the bytes of the triples that a run left, and then those of any B are a load of the run's answer with B
 abbrev pub Next-load : Run-answer → Type 0
 Next-load o =
     (B : List Triple) → Fit-bytes (flat B)
-    → triples (read-buffer (take (12 * o .count) (o .store) ++ bytes-of (flat B))) ≡ answer (read-answer o) ++ B
+    → triples (read-buffer (take (triple-bytes * o .count) (o .store) ++ bytes-of (flat B))) ≡ answer (read-answer o) ++ B
 
 -- what the list of calls gives from what the start leaves, and the terms that the contents name then
 abbrev pub list-gives : List ℕ → List ℕ → List Call → Byte-list-left

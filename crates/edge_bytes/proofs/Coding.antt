@@ -10,11 +10,14 @@ use lib.Seq.{drop-cons, take-suc-set, append-snoc, take-all}
 use lib.Dec.{eqb}
 use borrow.Author.Tests.{eq-eqb, ne-eqb, le-leb, lt-leb}
 use Rattle.common.specs.Triples.{if}
-use Rattle.edge_bytes.specs.Bytes.{numbers-of, bytes-of, changes, left-bytes, forwarded, cleared}
+use Rattle.edge_bytes.specs.Bytes.{from-bytes, to-bytes, numbers-of, bytes-of, changes, left-bytes, forwarded, cleared}
 
-pub numbers-step : (l : List ℕ) (k : ℕ) → k + 3 < length l
-    → numbers-of (drop k l) ≡ (getD l k 0 + 256 * getD l (k + 1) 0 + 65536 * getD l (k + 2) 0 + 16777216 * getD l (k + 3) 0)
-    ∷ numbers-of (drop (k + 4) l)
+-- the number of the four bytes from a place on
+abbrev number-at : List ℕ → ℕ → ℕ
+number-at l k = from-bytes (getD l k 0) (getD l (k + 1) 0) (getD l (k + 2) 0) (getD l (k + 3) 0)
+
+numbers-step : (l : List ℕ) (k : ℕ) → k + 3 < length l
+    → numbers-of (drop k l) ≡ number-at l k ∷ numbers-of (drop (k + 4) l)
 unfolding numbers-of
 numbers-step l k h =
     let e₁ : k + 1 ≡ suc k = omega arith in
@@ -35,8 +38,8 @@ numbers-step l k h =
 
 -- one number more is stored
 pub numbers-more : (l ws all : List ℕ) (i w : ℕ) → i < length ws → 4 * i + 3 < length l
-    → w ≡ getD l (4 * i) 0 + 256 * getD l (4 * i + 1) 0 + 65536 * getD l (4 * i + 2) 0 + 16777216 * getD l (4 * i + 3) 0
-    → take i ws ++ numbers-of (drop (4 * i) l) ≡ all → take (i + 1) (set ws i w) ++ numbers-of (drop (4 * (i + 1)) l) ≡ all
+    → w ≡ number-at l (4 * i) → take i ws ++ numbers-of (drop (4 * i) l) ≡ all
+    → take (i + 1) (set ws i w) ++ numbers-of (drop (4 * (i + 1)) l) ≡ all
 numbers-more l ws all i w h k e p =
     let n : 4 * (i + 1) ≡ 4 * i + 4 = omega arith in
     rw (n, add-one i, take-suc-set ws i w h, append-snoc, e, ← numbers-step l (4 * i) k) p
@@ -48,41 +51,48 @@ numbers-done l ws all i h k p =
     let q : take i ws ++ numbers-of [] ≡ all = rw (drop-of-length-le l k) at p in
     sym (take-all i ws h) ∙ sym (append-nil (take i ws)) ∙ q
 
-pub bytes-step : (l : List ℕ) (i : ℕ) → i < length l
-    → bytes-of (drop i l) ≡ (getD l i 0 % 256) ∷ (getD l i 0 / 256 % 256) ∷ (getD l i 0 / 65536 % 256)
-    ∷ (getD l i 0 / 16777216 % 256) ∷ bytes-of (drop (i + 1) l)
+bytes-step : (l : List ℕ) (i : ℕ) → i < length l
+    → bytes-of (drop i l) ≡ to-bytes (getD l i 0) (bytes-of (drop (i + 1) l))
 unfolding bytes-of
 bytes-step l i h = rw (add-one i, drop-cons l i 0 h)
 
 -- four stores in a row
-pub four : (l : List ℕ) (k a b c d : ℕ) (rest : List ℕ) → k + 3 < length l
-    → take (k + 4) (set (set (set (set l k a) (k + 1) b) (k + 2) c) (k + 3) d) ++ rest ≡ take k l ++ a ∷ b ∷ c ∷ d ∷ rest
+abbrev set-four : List ℕ → ℕ → ℕ → ℕ → ℕ → ℕ → List ℕ
+set-four l k a b c d = set (set (set (set l k a) (k + 1) b) (k + 2) c) (k + 3) d
+
+four : (l : List ℕ) (k a b c d : ℕ) (rest : List ℕ) → k + 3 < length l
+    → take (k + 4) (set-four l k a b c d) ++ rest ≡ take k l ++ a ∷ b ∷ c ∷ d ∷ rest
 four l k a b c d rest h =
     let e₁ : k + 1 ≡ suc k = omega arith in
     let e₂ : k + 2 ≡ suc (suc k) = omega arith in
     let e₃ : k + 3 ≡ suc (suc (suc k)) = omega arith in
     let e₄ : k + 4 ≡ suc (suc (suc (suc k))) = omega arith in
+    let l₁ = set l k a in
+    let l₂ = set l₁ (suc k) b in
+    let l₃ = set l₂ (suc (suc k)) c in
     rw (
       e₁,
       e₂,
       e₃,
       e₄,
-      take-suc-set (set (set (set l k a) (suc k) b) (suc (suc k)) c) (suc (suc (suc k))) d (simp length-set (omega arith)),
-      take-suc-set (set (set l k a) (suc k) b) (suc (suc k)) c (simp length-set (omega arith)),
-      take-suc-set (set l k a) (suc k) b (simp length-set (omega arith)),
+      take-suc-set l₃ (suc (suc (suc k))) d (simp length-set (omega arith)),
+      take-suc-set l₂ (suc (suc k)) c (simp length-set (omega arith)),
+      take-suc-set l₁ (suc k) b (simp length-set (omega arith)),
       take-suc-set l k a (omega arith),
     )
     (simp append-assoc)
 
+-- one number more is written
 pub bytes-more : (ws bs all : List ℕ) (i : ℕ) → i < length ws → 4 * i + 3 < length bs → take (4 * i) bs ++ bytes-of (drop i ws) ≡ all
-    → take (4 * (i + 1)) (set (set (set (set bs (4 * i) (getD ws i 0 % 256)) (4 * i + 1) (getD ws i 0 / 256 % 256)) (4 * i + 2)
-    (getD ws i 0 / 65536 % 256)) (4 * i + 3) (getD ws i 0 / 16777216 % 256)) ++ bytes-of (drop (i + 1) ws) ≡ all
+    → let n = getD ws i 0 in
+    take (4 * (i + 1)) (set-four bs (4 * i) (n % 256) (n / 256 % 256) (n / 65536 % 256) (n / 16777216 % 256))
+    ++ bytes-of (drop (i + 1) ws) ≡ all
 bytes-more ws bs all i h k p =
-    let n : 4 * (i + 1) ≡ 4 * i + 4 = omega arith in
+    let n = getD ws i 0 in
+    let q : 4 * (i + 1) ≡ 4 * i + 4 = omega arith in
     rw (
-      n,
-      four bs (4 * i) (getD ws i 0 % 256) (getD ws i 0 / 256 % 256) (getD ws i 0 / 65536 % 256)
-          (getD ws i 0 / 16777216 % 256) (bytes-of (drop (i + 1) ws)) k,
+      q,
+      four bs (4 * i) (n % 256) (n / 256 % 256) (n / 65536 % 256) (n / 16777216 % 256) (bytes-of (drop (i + 1) ws)) k,
       ← bytes-step ws i h,
     ) p
 

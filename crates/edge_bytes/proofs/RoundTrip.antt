@@ -6,11 +6,11 @@ use native.Mathlib.Omega.{arith}
 use lib.ListN.{length, take, replicate}
 use lib.Seq.{take-nil}
 use borrow.Author.Tests.{eq-eqb}
-use Rattle.edge_bytes.specs.Bytes.{numbers-of, bytes-of, Fit-bytes, read-buffer}
+use Rattle.edge_bytes.specs.Bytes.{from-bytes, to-bytes, numbers-of, bytes-of, Fit-bytes, read-buffer}
 
 -- one number
-four-bytes : (n : ℕ) → n < 4294967296 → n % 256 + 256 * (n / 256 % 256) + 65536 * (n / 65536 % 256) + 16777216 * (n / 16777216 % 256) ≡ n
-four-bytes n h =
+from-to : (n : ℕ) → n < 4294967296 → from-bytes (n % 256) (n / 256 % 256) (n / 65536 % 256) (n / 16777216 % 256) ≡ n
+from-to n h =
     let a = n / 256 in
     let b = n / 65536 in
     let c = n / 16777216 in
@@ -24,7 +24,7 @@ four-bytes n h =
 pub numbers-bytes : (l : List ℕ) → Fit-bytes l → numbers-of (bytes-of l) ≡ l
 unfolding numbers-of bytes-of
 numbers-bytes [] f = refl
-numbers-bytes (n ∷ l) f = ap₂ (λ m r. m ∷ r) (four-bytes n (f .0)) (numbers-bytes l (f .1))
+numbers-bytes (n ∷ l) f = ap₂ (λ m r. m ∷ r) (from-to n (f .0)) (numbers-bytes l (f .1))
 
 pub length-bytes : (l : List ℕ) → length (bytes-of l) ≡ 4 * length l
 unfolding bytes-of
@@ -45,12 +45,12 @@ bytes-take (suc k) [] = take-nil (4 * suc k)
 bytes-take (suc k) (n ∷ l) =
     let q : 4 * suc k ≡ suc (suc (suc (suc (4 * k)))) = omega arith in
     ap (λ (j : ℕ). take j (bytes-of (n ∷ l))) q
-    ∙ ap (λ (r : List ℕ). (n % 256) ∷ (n / 256 % 256) ∷ (n / 65536 % 256) ∷ (n / 16777216 % 256) ∷ r) (bytes-take k l)
+    ∙ ap (to-bytes n) (bytes-take k l)
 
 pub bytes-append : (l m : List ℕ) → bytes-of (l ++ m) ≡ bytes-of l ++ bytes-of m
 unfolding bytes-of
 bytes-append [] m = refl
-bytes-append (n ∷ l) m = ap (λ (r : List ℕ). (n % 256) ∷ (n / 256 % 256) ∷ (n / 65536 % 256) ∷ (n / 16777216 % 256) ∷ r) (bytes-append l m)
+bytes-append (n ∷ l) m = ap (to-bytes n) (bytes-append l m)
 
 -- lists of such numbers, one behind the other, and zeros
 pub fit-append : (l m : List ℕ) → Fit-bytes l → Fit-bytes m → Fit-bytes (l ++ m)

@@ -7,17 +7,23 @@ use lib.Dec.{leb, eqb}
 use lib.ListN.{length, replicate}
 use Rattle.common.specs.Triples.{if}
 
--- little-endian: four bytes a number, the lowest first
+-- little-endian: the number of four bytes, the lowest first, and the four bytes of a number, with others behind them
+abbrev pub from-bytes : ℕ → ℕ → ℕ → ℕ → ℕ
+from-bytes a b c d = a + 256 * b + 65536 * c + 16777216 * d
+
+abbrev pub to-bytes : ℕ → List ℕ → List ℕ
+to-bytes n l = (n % 256) ∷ (n / 256 % 256) ∷ (n / 65536 % 256) ∷ (n / 16777216 % 256) ∷ l
+
 unfoldable pub numbers-of : List ℕ → List ℕ
 numbers-of [] = []
 numbers-of (a ∷ []) = []
 numbers-of (a ∷ b ∷ []) = []
 numbers-of (a ∷ b ∷ c ∷ []) = []
-numbers-of (a ∷ b ∷ c ∷ d ∷ l) = (a + 256 * b + 65536 * c + 16777216 * d) ∷ numbers-of l
+numbers-of (a ∷ b ∷ c ∷ d ∷ l) = from-bytes a b c d ∷ numbers-of l
 
 unfoldable pub bytes-of : List ℕ → List ℕ
 bytes-of [] = []
-bytes-of (n ∷ l) = (n % 256) ∷ (n / 256 % 256) ∷ (n / 65536 % 256) ∷ (n / 16777216 % 256) ∷ bytes-of l
+bytes-of (n ∷ l) = to-bytes n (bytes-of l)
 
 -- every number of a list is below 2 ^ 32, so that four bytes hold it: such numbers are read back from their bytes
 abbrev pub Fit-bytes : List ℕ → Type 0

@@ -1,26 +1,21 @@
 // Buffers of bytes at the C boundary, and the numbers that they hold.
 use dictionary_layout::bytes::clear_bytes;
 ghost use mathlib.Core.Path.{_≡_};
-ghost use Prim.Native.Nat.{_+_, _*_, _<_};
+ghost use Prim.Native.Nat.{_*_};
 ghost use lib.Dec.{T};
 ghost use lib.ListN.{length};
-ghost use Rattle.edge_bytes.specs.Bytes.{numbers-of, bytes-of, changes, left-bytes, forwarded, cleared};
-
-fn wide(x: u8) -> u32
-    ensures { λ r. ⌜ (r ≡ x) × (r < 256) ⌝ }
-{
-    x as u32
-}
+ghost use Rattle.edge_bytes.specs.Bytes.{from-bytes, numbers-of, bytes-of, changes, left-bytes, forwarded, cleared};
 
 fn number(a: u8, b: u8, c: u8, d: u8) -> u32
-    ensures { λ r. ⌜ r ≡ a + 256 * b + 65536 * c + 16777216 * d ⌝ }
+    ensures { λ r. ⌜ r ≡ from-bytes a b c d ⌝ }
 {
-    wide(a) + 256 * wide(b) + 65536 * wide(c) + 16777216 * wide(d)
+    a as u32 + 256 * (b as u32) + 65536 * (c as u32) + 16777216 * (d as u32)
 }
 
 // Reads the numbers of the bytes; where they are not as many as the bytes have, what is read is free.
 pub fn read_numbers(bytes: &[u8], numbers: &mut [u32])
-    ensures { λ _. ⌜ (length (now (bytes .entry)) ≡ 4 * length (now (numbers .entry)) → now (numbers .exit) ≡ numbers-of (now (bytes .entry))) ⌝ }
+    ensures { λ _. ⌜ (length (now (bytes .entry)) ≡ 4 * length (now (numbers .entry))
+        → now (numbers .exit) ≡ numbers-of (now (bytes .entry))) ⌝ }
 {
     let mut i = 0;
     while i < numbers.len() {

@@ -2,7 +2,7 @@
 use mathlib.Core.Path.{_≡_, refl, sym, ap, subst, _∙_}
 use mathlib.Core.Bool.{Bool, true, false}
 use mathlib.Core.List.{List, [], _∷_}
-use Prim.Native.Nat.{ℕ, _+_, _*_, _/_, _%_, _≤_, _<_}
+use Prim.Native.Nat.{ℕ, _*_, _/_, _%_, _≤_, _<_}
 use native.Mathlib.Omega.{arith}
 use lib.Dec.{eqb, leb}
 use lib.ListN.{length, take, replicate, length-replicate}
@@ -10,9 +10,12 @@ use lib.Seq.{length-take-le}
 use mir.Syntax.{w64}
 use mir.Val.{Fits}
 use borrow.Author.Tests.{eq-eqb, ne-eqb, eqb-true, eqb-false, leb-true, leb-false}
+use Rattle.common.specs.Sizes.{table-limit}
 use Rattle.edge_bytes.specs.Bytes.{numbers-of, read-buffer, forwarded}
-use Rattle.driver_load.specs.Lent.{Lent}
-use Rattle.edge_c.specs.Calls.{Forwarded-all, Enough}
+use Rattle.driver_load.specs.Lent.{Lent, lent}
+use Rattle.edge_c.specs.Forwarded.{longest-load, longest-store, longest-findings, longest-work, longer-load, load-array}
+use Rattle.edge_c.specs.Forwarded.{table-forwarded, load-forwarded, store-forwarded, findings-forwarded, work-forwarded}
+use Rattle.edge_c.specs.Forwarded.{Forwarded-all, Enough}
 use Rattle.edge_bytes.proofs.Coding.{forwarded-ragged, forwarded-all, forwarded-more}
 
 pub length-numbers : (b : List ℕ) → length (numbers-of b) ≡ length b / 4
@@ -39,8 +42,8 @@ pub data Forwarded (most more : ℕ) (b : List ℕ) (n : ℕ) : Type 0 where
   ragged : n ≡ 1 → length (read-buffer b) ≡ 1 → Forwarded most more b n
   long : n ≡ more → length b % 4 ≡ 0 → length (read-buffer b) ≡ length b / 4 → most < length b / 4 → Forwarded most more b n
 
-pub by-length : (most more : ℕ) (b : List ℕ) (n : ℕ) → n ≡ forwarded most more (length b) → Forwarded most more b n
-by-length most more b n e = go (eqb (length b % 4) 0) (leb (length b / 4) most) refl refl
+pub by-length : {most more : ℕ} {b : List ℕ} {n : ℕ} → n ≡ forwarded most more (length b) → Forwarded most more b n
+by-length {most} {more} {b} {n} e = go (eqb (length b % 4) 0) (leb (length b / 4) most) refl refl
   where
     all : length b % 4 ≡ 0 → length (read-buffer b) ≡ length b / 4
     all h = ap (λ (l : List ℕ). length l) (read-whole b h) ∙ length-numbers b
@@ -49,8 +52,8 @@ by-length most more b n e = go (eqb (length b % 4) 0) (leb (length b / 4) most) 
     go true true i j =
         let h = eqb-true (length b % 4) 0 i in
         let k = leb-true (length b / 4) most j in
-        whole (omega (arith, forwarded-all most more (length b) h k)) (omega (arith, forwarded-all most more (length b) h k))
-        (omega (arith, all h, forwarded-all most more (length b) h k)) (read-whole b h)
+        let same = forwarded-all most more (length b) h k in
+        whole (omega arith) (omega arith) (omega (arith, all h)) (read-whole b h)
     go true false i j =
         let h = eqb-true (length b % 4) 0 i in
         let k = leb-false (length b / 4) most j in
@@ -59,89 +62,125 @@ by-length most more b n e = go (eqb (length b % 4) 0) (leb (length b / 4) most) 
         let h = eqb-false (length b % 4) 0 i in
         ragged (e ∙ sym (forwarded-ragged most more (length b) h)) (read-ragged b h)
 
--- numbers that suffice for every buffer: for the most that are passed on, for one, and for those in place of a longer one
+abbrev pub Table-forwarded : List ℕ → ℕ → Type 0
+Table-forwarded b n = Forwarded table-limit 1 b n
+
+abbrev pub Load-forwarded : List ℕ → ℕ → Type 0
+Load-forwarded b n = Forwarded longest-load (longer-load (length b / 4)) b n
+
+abbrev pub Store-forwarded : List ℕ → ℕ → Type 0
+Store-forwarded b n = Forwarded longest-store 1 b n
+
+abbrev pub Findings-forwarded : List ℕ → ℕ → Type 0
+Findings-forwarded b n = Forwarded longest-findings 1 b n
+
+abbrev pub Work-forwarded : List ℕ → ℕ → Type 0
+Work-forwarded b n = Forwarded longest-work longest-work b n
+
+-- NUMBERS THAT SUFFICE for every buffer: for the most that are passed on, for one, and for those in place of a longer one
 pub record Suffices (most more : ℕ) (l : List ℕ) : Type 0 where
   pub room : most ≤ length l
   pub one : 1 ≤ length l
   pub rest : more ≤ length l
 
-pub table-enough : (l : List ℕ) → 262204 ≤ length l → Suffices 262204 1 l
+pub table-enough : (l : List ℕ) → table-limit ≤ length l → Suffices table-limit 1 l
 table-enough l h = record { room = h; one = omega arith; rest = omega arith }
 
-pub load-enough : (n : ℕ) (l : List ℕ) → 49157 ≤ length l → Suffices 49152 (49155 + n / 4 % 3) l
+pub load-enough : (n : ℕ) (l : List ℕ) → load-array ≤ length l → Suffices longest-load (longer-load n) l
 load-enough n l h = record { room = omega arith; one = omega arith; rest = omega arith }
 
-pub store-enough : (l : List ℕ) → 196605 ≤ length l → Suffices 196605 1 l
+pub store-enough : (l : List ℕ) → longest-store ≤ length l → Suffices longest-store 1 l
 store-enough l h = record { room = h; one = omega arith; rest = omega arith }
 
-pub findings-enough : (l : List ℕ) → 327675 ≤ length l → Suffices 327675 1 l
+pub findings-enough : (l : List ℕ) → longest-findings ≤ length l → Suffices longest-findings 1 l
 findings-enough l h = record { room = h; one = omega arith; rest = omega arith }
 
-pub work-enough : (l : List ℕ) → 131076 ≤ length l → Suffices 131076 131076 l
+pub work-enough : (l : List ℕ) → longest-work ≤ length l → Suffices longest-work longest-work l
 work-enough l h = record { room = h; one = omega arith; rest = h }
 
 -- the numbers in place of a longer load are few
-pub few-more : (n : ℕ) → Fits w64 (49155 + n / 4 % 3)
+pub few-more : (n : ℕ) → Fits w64 (longer-load n)
 few-more n = record { fits = omega arith }
 
--- such numbers have as many in front
-module _ (most more : ℕ) (b l : List ℕ) (h : Suffices most more l) {n : ℕ} (e : n ≡ forwarded most more (length b)) where
-  pub prefix-fits : n ≤ length l
-  prefix-fits = go (by-length most more b n e)
+-- the first n numbers of l
+pub record Prefix (l : List ℕ) (n : ℕ) : Type 0 where
+  pub fits : n ≤ length l
+  pub count : n ≡ length (take n l)
+
+-- such numbers have as many in front as are passed for the buffer b
+module _ {most more : ℕ} {l : List ℕ} (h : Suffices most more l) (b : List ℕ) {n : ℕ} (e : n ≡ forwarded most more (length b)) where
+  pub prefix : Prefix l n
+  prefix = let within = go (by-length e) in record { fits = within; count = sym (length-take-le n l within) }
     where
       go : Forwarded most more b n → n ≤ length l
       go (whole p u q r) = omega (arith, h .room)
       go (ragged p q) = omega (arith, h .one)
       go (long p q r s) = omega (arith, h .rest)
 
-  pub prefix-count : n ≡ length (take n l)
-  prefix-count = sym (length-take-le n l prefix-fits)
-
   pub prefix-forwarded : length (take n l) ≡ forwarded most more (length b)
-  prefix-forwarded = sym prefix-count ∙ e
+  prefix-forwarded = sym (prefix .count) ∙ e
 
-pub all-forwarded : {t l s f w : List ℕ} → Enough t l s f w → (table : List ℕ) (b : Lent) {i j k m n : ℕ}
-    → i ≡ forwarded 262204 1 (length table)
-    → j ≡ forwarded 49152 (49155 + length (b .load) / 4 % 3) (length (b .load))
-    → k ≡ forwarded 196605 1 (length (b .store))
-    → m ≡ forwarded 327675 1 (length (b .findings))
-    → n ≡ forwarded 131076 131076 (length (b .work))
-    → Forwarded-all (take i t) (take j l) (take k s) (take m f) (take n w) table b
-all-forwarded {t} {l} {s} {f} {w} h table b p q x y z = record {
-  table-numbers = prefix-forwarded 262204 1 table t (table-enough t (h .table-room)) p;
-  load-numbers = prefix-forwarded 49152 (49155 + length (b .load) / 4 % 3) (b .load) l (load-enough (length (b .load)) l (h .load-room)) q;
-  store-numbers = prefix-forwarded 196605 1 (b .store) s (store-enough s (h .store-room)) x;
-  findings-numbers = prefix-forwarded 327675 1 (b .findings) f (findings-enough f (h .findings-room)) y;
-  work-numbers = prefix-forwarded 131076 131076 (b .work) w (work-enough w (h .work-room)) z;
+pub all-forwarded : {t : List ℕ} {m : Lent} → Enough t m → (table : List ℕ) (b : Lent) {i j k x y : ℕ}
+    → i ≡ table-forwarded (length table) → j ≡ load-forwarded (length (b .load)) → k ≡ store-forwarded (length (b .store))
+    → x ≡ findings-forwarded (length (b .findings)) → y ≡ work-forwarded (length (b .work))
+    → Forwarded-all (take i t) (lent (take j (m .load)) (take k (m .store)) (take x (m .findings)) (take y (m .work))) table b
+all-forwarded {t} {m} h table b p q r u v = record {
+  table-numbers = prefix-forwarded (table-enough t (h .table-room)) table p;
+  load-numbers = prefix-forwarded (load-enough (length (b .load) / 4) (m .load) (h .load-room)) (b .load) q;
+  store-numbers = prefix-forwarded (store-enough (m .store) (h .store-room)) (b .store) r;
+  findings-numbers = prefix-forwarded (findings-enough (m .findings) (h .findings-room)) (b .findings) u;
+  work-numbers = prefix-forwarded (work-enough (m .work) (h .work-room)) (b .work) v;
 }
-
--- numbers that are read keep their lengths
-pub forwarded-read : {t l t' l' s f w table : List ℕ} {b : Lent} → Forwarded-all t l s f w table b → length t' ≡ length t
-    → length l' ≡ length l → Forwarded-all t' l' s f w table b
-forwarded-read h p q =
-    record {
-      table-numbers = p ∙ h .table-numbers;
-      load-numbers = q
-          ∙ h .load-numbers;
-      store-numbers = h .store-numbers;
-      findings-numbers = h .findings-numbers;
-      work-numbers = h .work-numbers;
-    }
 
 -- local arrays suffice
 long-enough : {m : ℕ} (n : ℕ) → m ≤ n → m ≤ length (replicate {A = ℕ} n 0)
 long-enough {m} n h = subst (λ (k : ℕ). m ≤ k) (sym (length-replicate {A = ℕ} n 0)) h
 
-pub table-array : 262204 ≤ length (replicate {A = ℕ} 262204 0)
-table-array = long-enough 262204 (omega arith)
+pub table-array : table-limit ≤ length (replicate {A = ℕ} table-limit 0)
+table-array = long-enough table-limit (omega arith)
 
-pub arrays : Enough (replicate 262204 0) (replicate 49157 0) (replicate 196605 0) (replicate 327675 0) (replicate 131076 0)
-arrays =
-    record {
-      table-room = table-array;
-      load-room = long-enough 49157 (omega arith);
-      store-room = long-enough 196605
-          (omega arith);
-      findings-room = long-enough 327675 (omega arith);
-      work-room = long-enough 131076 (omega arith);
-    }
+pub arrays : Enough (replicate table-limit 0)
+    (lent (replicate load-array 0) (replicate longest-store 0) (replicate longest-findings 0) (replicate longest-work 0))
+arrays = record {
+  table-room = table-array;
+  load-room = long-enough load-array (omega arith);
+  store-room = long-enough longest-store (omega arith);
+  findings-room = long-enough longest-findings (omega arith);
+  work-room = long-enough longest-work (omega arith);
+}
+
+-- THE NUMBERS t READ from the bytes b: the bytes' own, where they are all
+pub record Read (most more : ℕ) (b t : List ℕ) : Type 0 where
+  pub passed : Forwarded most more b (length t)
+  pub numbers : length b ≡ 4 * length t → t ≡ numbers-of b
+
+abbrev pub Read-table : List ℕ → List ℕ → Type 0
+Read-table b t = Read table-limit 1 b t
+
+abbrev pub Read-load : List ℕ → List ℕ → Type 0
+Read-load b l = Read longest-load (longer-load (length b / 4)) b l
+
+-- n numbers stood there before, which is what the contract of `read_numbers` speaks of
+pub read-as : {most more : ℕ} {b t : List ℕ} {n : ℕ} → n ≡ forwarded most more (length b) → length t ≡ n
+    → (length b ≡ 4 * n → t ≡ numbers-of b) → Read most more b t
+read-as e k f = record { passed = by-length (k ∙ e); numbers = λ p. f (p ∙ ap (λ (m : ℕ). 4 * m) k) }
+
+-- THE NUMBERS t AND m that a run is passed for the bytes of the table and of b: the table's and the load's are read
+pub record Passed (table : List ℕ) (b : Lent) (t : List ℕ) (m : Lent) : Type 0 where
+  pub table-read : Read-table table t
+  pub load-read : Read-load (b .load) (m .load)
+  pub store-passed : Store-forwarded (b .store) (length (m .store))
+  pub findings-passed : Findings-forwarded (b .findings) (length (m .findings))
+  pub work-passed : Work-forwarded (b .work) (length (m .work))
+
+pub all-read : {t t' l' table : List ℕ} {m b : Lent} → Forwarded-all t m table b
+    → length t' ≡ length t → (length table ≡ 4 * length t → t' ≡ numbers-of table)
+    → length l' ≡ length (m .load) → (length (b .load) ≡ 4 * length (m .load) → l' ≡ numbers-of (b .load))
+    → Passed table b t' (lent l' (m .store) (m .findings) (m .work))
+all-read h i p j q = record {
+  table-read = read-as (h .table-numbers) i p;
+  load-read = read-as (h .load-numbers) j q;
+  store-passed = by-length (h .store-numbers);
+  findings-passed = by-length (h .findings-numbers);
+  work-passed = by-length (h .work-numbers);
+}

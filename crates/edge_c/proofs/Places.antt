@@ -2,19 +2,18 @@
 use mathlib.Core.Path.{_≡_, refl, sym, ap, subst, _∙_}
 use mathlib.Core.Logic.{⊎-elim}
 use mathlib.Core.List.{List, []}
-use Prim.Native.Nat.{ℕ, _+_, _*_, _-_, _≤_, _<_}
+use Prim.Native.Nat.{ℕ, _+_, _-_, _≤_, _<_}
 use native.Mathlib.Omega.{arith}
 use lib.Dec.{T}
 use lib.ListN.{length, take, drop, length-take, length-drop}
-use Rattle.dictionary_layout.specs.Layout.{Dict, dict}
+use Rattle.dictionary_layout.specs.Layout.{Dict}
 use Rattle.dictionary_layout.specs.Dictionary.{if-zero, Lookup-answer, lookup-answer, valid}
 use Rattle.dictionary_layout.specs.Calls.{lookup-gives}
 use Rattle.dictionary_entries.specs.Entries.{start-of, length-of, kind-of}
 use Rattle.dictionary_index.proofs.Looking.{look-12, look-known, look-1}
-use Rattle.edge_bytes.specs.Bytes.{numbers-of, read-buffer}
-use Rattle.edge_c.specs.Calls.{Place-answer, place-answer, place-at, place-gives, Places}
-use Rattle.edge_c.proofs.Forwarding.{Forwarded}
-use Rattle.edge_c.proofs.Tables.{dict-alike}
+use Rattle.edge_c.specs.Calls.{read-dict, Place-answer, place-answer, place-at, place-gives, Places}
+use Rattle.edge_c.proofs.Forwarding.{Read-table}
+use Rattle.edge_c.proofs.Tables.{with-table, dict-alike}
 
 -- from the answer of a lookup to its place
 by-answer : (d : Dict) (i : ℕ) (r : Lookup-answer) (p : Place-answer) → r ≡ lookup-gives d i
@@ -47,11 +46,11 @@ module _ (d : Dict) (v : T (valid d)) (i : ℕ) where
       (ap (λ (x : ℕ). take x (drop s (d .arena))) (sym k))
 
 -- the dictionary that is passed on, and the buffers' own
-module _ (tb t : List ℕ) (h : Forwarded 262204 1 tb (length t)) (read : length tb ≡ 4 * length t → t ≡ numbers-of tb) (a : List ℕ)
-    (n u i : ℕ) (p : Place-answer) where
-  pub place-alike : Places (dict t a n u) i p → Places (dict (read-buffer tb) a n u) i p
-  place-alike q =
-      ⊎-elim (λ e. subst (λ (d : Dict). Places d i p) e q)
-      (λ z. subst (λ (x : Place-answer). Places (dict (read-buffer tb) a n u) i x)
-      (sym (q .answers ∙ sym (place-broken (dict t a n u) i (z .0) .answers)))
-      (place-broken (dict (read-buffer tb) a n u) i (z .1))) (dict-alike tb t h read a n u)
+pub place-alike : (d : Dict) {t : List ℕ} → Read-table (d .table) t → (i : ℕ) {p : Place-answer} → Places (with-table t d) i p
+    → Places (read-dict d) i p
+place-alike d {t} h i {p} q = ⊎-elim (λ e. subst (λ (x : Dict). Places x i p) e q) both-broken (dict-alike d h)
+  where
+    both-broken : (T (valid (with-table t d)) → ⊥) × (T (valid (read-dict d)) → ⊥) → Places (read-dict d) i p
+    both-broken z =
+        let same = place-broken (with-table t d) i (z .0) .answers ∙ sym (q .answers) in
+        subst (λ (x : Place-answer). Places (read-dict d) i x) same (place-broken (read-dict d) i (z .1))

@@ -8,6 +8,7 @@ use native.Mathlib.Omega.{arith}
 use lib.Dec.{T}
 use lib.ListN.{length}
 use Rattle.common.specs.Triples.{if}
+use Rattle.common.specs.Sizes.{heads-width, table-limit}
 use Rattle.dictionary_layout.specs.Terms.{Term, start-terms}
 use Rattle.dictionary_layout.specs.Layout.{Dict, dict, layout}
 use Rattle.dictionary_layout.specs.Dictionary.{sized, start-fits, start-refusal, valid}
@@ -18,10 +19,10 @@ use Rattle.dictionary_index.specs.declared.values.PutNext.{PutNext}
 use Rattle.dictionary_layout.proofs.Choice.{false→not-T, decide-bool}
 use Rattle.dictionary_layout.proofs.Holding.{valid→, sized→}
 use Rattle.dictionary_layout.proofs.Reachable.{refusal-4, refusal-none, start-accepts, start-refuses, put-broken}
-use Rattle.edge_bytes.specs.Bytes.{numbers-of, read-buffer, changes, left-bytes}
-use Rattle.edge_c.specs.Calls.{start-in-bytes, start-bytes-give, put-in-bytes, put-bytes-give}
+use Rattle.edge_bytes.specs.Bytes.{read-buffer, changes, left-bytes}
+use Rattle.edge_c.specs.Calls.{read-dict, start-in-bytes, start-bytes-give, put-in-bytes, put-bytes-give}
 use Rattle.edge_bytes.proofs.Coding.{left-alone}
-use Rattle.edge_c.proofs.Forwarding.{Forwarded, whole, ragged, long}
+use Rattle.edge_c.proofs.Forwarding.{Table-forwarded, whole, ragged, long, Read-table}
 
 -- a call that changes no buffer leaves the bytes, whatever numbers it worked on
 pub same-left : (n : ℕ) (b l m : List ℕ) → false ≡ changes n → left-bytes n b l ≡ left-bytes n b m
@@ -34,32 +35,30 @@ quiet-1 = refl
 not-quiet : (n : ℕ) → T (changes n) → false ≡ changes n → ⊥
 not-quiet n t e = false→not-T (changes n) e t
 
-too-short : (n al : ℕ) → n < 64 → T (sized n al) → ⊥
+too-short : (n al : ℕ) → n < heads-width → T (sized n al) → ⊥
 too-short n al h s = omega (arith, sized→ n al s .low)
 
-too-long : (n al : ℕ) → 262204 < n → T (sized n al) → ⊥
+too-long : (n al : ℕ) → table-limit < n → T (sized n al) → ⊥
 too-long n al h s = omega (arith, sized→ n al s .high)
 
-module _ (tb t : List ℕ) (h : Forwarded 262204 1 tb (length t)) where
+module _ {tb : List ℕ} {n : ℕ} (h : Table-forwarded tb n) (al : ℕ) where
   -- a table that is well sized is passed on whole
-  pub table-whole : (al : ℕ) → T (sized (length t) al) → length tb ≡ 4 * length t
-  table-whole al s = go h
+  table-whole : T (sized n al) → length tb ≡ 4 * n
+  table-whole s = go h
     where
-      go : Forwarded 262204 1 tb (length t) → length tb ≡ 4 * length t
+      go : Table-forwarded tb n → length tb ≡ 4 * n
       go (whole p u q r) = p
-      go (ragged p q) = absurd (too-short (length t) al (omega arith) s)
-      go (long p u q r) = absurd (too-short (length t) al (omega arith) s)
+      go (ragged p q) = absurd (too-short n al (omega arith) s)
+      go (long p u q r) = absurd (too-short n al (omega arith) s)
 
   -- and one that is not is passed on as another that is not
-  pub table-alike : (al : ℕ) → (length t ≡ length (read-buffer tb))
-      ⊎ ((T (sized (length t) al) → ⊥) × (T (sized (length (read-buffer tb)) al) → ⊥))
-  table-alike al = go h
+  table-alike : (n ≡ length (read-buffer tb)) ⊎ ((T (sized n al) → ⊥) × (T (sized (length (read-buffer tb)) al) → ⊥))
+  table-alike = go h
     where
-      go : Forwarded 262204 1 tb (length t) → (length t ≡ length (read-buffer tb))
-          ⊎ ((T (sized (length t) al) → ⊥) × (T (sized (length (read-buffer tb)) al) → ⊥))
+      go : Table-forwarded tb n → (n ≡ length (read-buffer tb)) ⊎ ((T (sized n al) → ⊥) × (T (sized (length (read-buffer tb)) al) → ⊥))
       go (whole p u q r) = inl q
       go (ragged p q) = inl (p ∙ sym q)
-      go (long p u q r) = inr (too-short (length t) al (omega arith), too-long (length (read-buffer tb)) al (omega arith))
+      go (long p u q r) = inr (too-short n al (omega arith), too-long (length (read-buffer tb)) al (omega arith))
 
 -- START
 -- refusals 4 and 7 change no buffer
@@ -82,12 +81,12 @@ start-number t a = go (start-refusal (length t) (length a)) refl
     go zero e = ap (λ (r : Start-result). r .number) (start-accepts t a e) ∙ sym e
     go (suc n) e = sym (ap (λ (r : Start-result). r .number) (start-refuses t a (suc n) (sym e) (λ q. omega arith))) ∙ sym e
 
-module _ (tb t a : List ℕ) (h : Forwarded 262204 1 tb (length t)) where
+module _ (tb t a : List ℕ) (h : Table-forwarded tb (length t)) where
   same-refusal : start-refusal (length t) (length a) ≡ start-refusal (length (read-buffer tb)) (length a)
   same-refusal =
       ⊎-elim (λ e. ap (λ (n : ℕ). start-refusal n (length a)) e)
       (λ p. sym (refusal-4 (length t) (length a) (p .0)) ∙ refusal-4 (length (read-buffer tb)) (length a) (p .1))
-      (table-alike tb t h (length a))
+      (table-alike h (length a))
 
   start-alike : start-in-bytes tb (start-gives t a) ≡ start-bytes-give tb a
   unfolding start-bytes-give
@@ -100,7 +99,7 @@ module _ (tb t a : List ℕ) (h : Forwarded 262204 1 tb (length t)) where
           → start-in-bytes tb (start-gives t a) ≡ start-in-bytes tb (start-gives (read-buffer tb) a)
       go zero e =
           let s = refusal-none (length t) (length a) e .0 in
-          let k : length t ≡ length (read-buffer tb) = ⊎-elim (λ p. p) (λ p. absurd (p .0 s)) (table-alike tb t h (length a)) in
+          let k : length t ≡ length (read-buffer tb) = ⊎-elim (λ p. p) (λ p. absurd (p .0 s)) (table-alike h (length a)) in
           ap (start-in-bytes tb) (start-accepts t a e ∙ ap (λ (n : ℕ). start-result 0 (layout n (length a) start-terms)) k
           ∙ sym (start-accepts (read-buffer tb) a (sym same-refusal ∙ e)))
       go (suc n) e =
@@ -114,7 +113,7 @@ module _ (tb t a : List ℕ) (h : Forwarded 262204 1 tb (length t)) where
     pub start-room : length t' ≡ length t → T (changes (r .number)) → length tb ≡ 4 * length t'
     start-room k c =
         subst (λ (n : ℕ). length tb ≡ 4 * n) (sym k)
-        (table-whole tb t h (length a) (refusal-none (length t) (length a) (none (start-refusal (length t) (length a)) refl) .0))
+        (table-whole h (length a) (refusal-none (length t) (length a) (none (start-refusal (length t) (length a)) refl) .0))
       where
         number : r .number ≡ start-refusal (length t) (length a)
         number = ap (λ (x : Start-result). x .number) e ∙ start-number t a
@@ -132,56 +131,59 @@ module _ (tb t a : List ℕ) (h : Forwarded 262204 1 tb (length t)) where
         ∙ (ap (start-in-bytes tb) e ∙ start-alike)
 
 -- PUT, and every call that is lent a dictionary: its contents are passed on, or others that are broken too
-module _ (tb t : List ℕ) (h : Forwarded 262204 1 tb (length t)) (read : length tb ≡ 4 * length t → t ≡ numbers-of tb) (a : List ℕ)
-    (n u : ℕ) where
-  broken : (l : List ℕ) → (T (sized (length l) (length a)) → ⊥) → T (valid (dict l a n u)) → ⊥
-  broken l f v = f (valid→ (dict l a n u) v .0 .sizes)
+abbrev pub with-table : List ℕ → Dict → Dict
+with-table t d = dict t (d .arena) (d .terms) (d .used)
 
-  pub dict-alike : (dict t a n u ≡ dict (read-buffer tb) a n u)
-      ⊎ ((T (valid (dict t a n u)) → ⊥) × (T (valid (dict (read-buffer tb) a n u)) → ⊥))
-  dict-alike = go h
+-- the dictionary d has a table of bytes, from which the numbers t were read
+module _ (d : Dict) {t : List ℕ} (h : Read-table (d .table) t) where
+  abbrev al : ℕ
+  al = length (d .arena)
+
+  broken : (l : List ℕ) → (T (sized (length l) al) → ⊥) → T (valid (with-table l d)) → ⊥
+  broken l f v = f (valid→ (with-table l d) v .0 .sizes)
+
+  pub dict-alike : (with-table t d ≡ read-dict d) ⊎ ((T (valid (with-table t d)) → ⊥) × (T (valid (read-dict d)) → ⊥))
+  dict-alike = go (h .passed)
     where
-      go : Forwarded 262204 1 tb (length t) → (dict t a n u ≡ dict (read-buffer tb) a n u)
-          ⊎ ((T (valid (dict t a n u)) → ⊥) × (T (valid (dict (read-buffer tb) a n u)) → ⊥))
-      go (whole p o q r) = inl (ap (λ (l : List ℕ). dict l a n u) (read p ∙ sym r))
+      own : List ℕ
+      own = read-buffer (d .table)
+
+      go : Table-forwarded (d .table) (length t)
+          → (with-table t d ≡ read-dict d) ⊎ ((T (valid (with-table t d)) → ⊥) × (T (valid (read-dict d)) → ⊥))
+      go (whole p o q r) = inl (ap (λ (l : List ℕ). with-table l d) (h .numbers p ∙ sym r))
       go (ragged p q) =
-          inr (
-            broken t (too-short (length t) (length a) (omega arith)),
-            broken (read-buffer tb)
-                (too-short (length (read-buffer tb)) (length a) (omega arith)),
-          )
+          inr (broken t (too-short (length t) al (omega arith)), broken own (too-short (length own) al (omega arith)))
       go (long p o q r) =
-          inr (
-            broken t (too-short (length t) (length a) (omega arith)),
-            broken (read-buffer tb)
-                (too-long (length (read-buffer tb)) (length a) (omega arith)),
-          )
+          inr (broken t (too-short (length t) al (omega arith)), broken own (too-long (length own) al (omega arith)))
 
   -- the table of a dictionary that is not broken is passed on whole
-  pub dict-room : (t' : List ℕ) → length t' ≡ length t → T (valid (dict t a n u)) → length tb ≡ 4 * length t'
-  dict-room t' k v = subst (λ (m : ℕ). length tb ≡ 4 * m) (sym k) (table-whole tb t h (length a) (valid→ (dict t a n u) v .0 .sizes))
+  pub dict-room : (t' : List ℕ) → length t' ≡ length t → T (valid (with-table t d)) → length (d .table) ≡ 4 * length t'
+  dict-room t' k v =
+      subst (λ (m : ℕ). length (d .table) ≡ 4 * m) (sym k) (table-whole (h .passed) al (valid→ (with-table t d) v .0 .sizes))
 
   module _ (x : Term) where
-    abbrev refused : List ℕ → Put-result
-    refused l = put-result 1 0 (dict l a n u)
-
-    put-alike : put-in-bytes tb (put-gives (dict t a n u) x) ≡ put-bytes-give (dict tb a n u) x
+    put-alike : put-in-bytes (d .table) (put-gives (with-table t d) x) ≡ put-bytes-give d x
     unfolding put-bytes-give
     put-alike =
-        ⊎-elim (λ e. ap (λ (d : Dict). put-in-bytes tb (put-gives d x)) e)
-        (λ p. ap (put-in-bytes tb) (put-broken (dict t a n u) x (p .0))
-        ∙ ap (λ (l : List ℕ). refused l) (same-left 1 tb t (read-buffer tb) quiet-1)
-        ∙ sym (ap (put-in-bytes tb) (put-broken (dict (read-buffer tb) a n u) x (p .1)))) dict-alike
+        ⊎-elim (λ e. ap (λ (y : Dict). put-in-bytes (d .table) (put-gives y x)) e)
+        (λ p. ap (put-in-bytes (d .table)) (put-broken (with-table t d) x (p .0))
+        ∙ ap refused (same-left 1 (d .table) t (read-buffer (d .table)) quiet-1)
+        ∙ sym (ap (put-in-bytes (d .table)) (put-broken (read-dict d) x (p .1)))) dict-alike
+      where
+        refused : List ℕ → Put-result
+        refused l = put-result 1 0 (with-table l d)
 
-    module _ (r : PutNext) {t' a' : List ℕ} (e : put-left r t' a' ≡ put-gives (dict t a n u) x) where
-      pub put-room : length t' ≡ length t → T (changes (r .number)) → length tb ≡ 4 * length t'
-      put-room k c =
-          ⊎-elim (λ v. dict-room t' k v) (λ f. absurd
-          (not-quiet 1 (subst (λ (m : ℕ). T (changes m))
-          (ap (λ (y : Put-result). y .number) (e ∙ put-broken (dict t a n u) x f)) c) quiet-1)) (decide-bool (valid (dict t a n u)))
+    module _ (r : PutNext) {t' a' : List ℕ} (e : put-left r t' a' ≡ put-gives (with-table t d) x) where
+      pub put-room : length t' ≡ length t → T (changes (r .number)) → length (d .table) ≡ 4 * length t'
+      put-room k c = ⊎-elim (λ v. dict-room t' k v) (λ f. absurd (refused f)) (decide-bool (valid (with-table t d)))
+        where
+          refused : (T (valid (with-table t d)) → ⊥) → ⊥
+          refused f =
+              let q = ap (λ (y : Put-result). y .number) (e ∙ put-broken (with-table t d) x f) in
+              not-quiet 1 (subst (λ (m : ℕ). T (changes m)) q c) quiet-1
 
-      pub put-done : {tb' : List ℕ} → tb' ≡ left-bytes (r .number) tb t'
-          → put-result (r .number) (r .id .0) (dict tb' a' (r .counters .terms) (r .counters .used)) ≡ put-bytes-give (dict tb a n u) x
+      pub put-done : {tb' : List ℕ} → tb' ≡ left-bytes (r .number) (d .table) t'
+          → put-result (r .number) (r .id .0) (dict tb' a' (r .counters .terms) (r .counters .used)) ≡ put-bytes-give d x
       put-done q =
           ap (λ (l : List ℕ). put-result (r .number) (r .id .0) (dict l a' (r .counters .terms) (r .counters .used))) q
-          ∙ (ap (put-in-bytes tb) e ∙ put-alike)
+          ∙ (ap (put-in-bytes (d .table)) e ∙ put-alike)

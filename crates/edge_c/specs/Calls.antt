@@ -2,7 +2,7 @@
 -- give for the numbers of the buffers, written back as bytes. REFERENCE 9. Assumes nothing.
 use mathlib.Core.List.{List}
 use mathlib.Core.Path.{_≡_}
-use Prim.Native.Nat.{ℕ, _+_, _*_, _/_, _%_, _≤_}
+use Prim.Native.Nat.{ℕ}
 use lib.ListN.{length, take, drop}
 use Rattle.dictionary_layout.specs.Terms.{Term}
 use Rattle.dictionary_layout.specs.Layout.{Dict, dict}
@@ -12,7 +12,7 @@ use Rattle.dictionary_layout.specs.Calls.{Start-result, start-result, start-giv
 use Rattle.dictionary_index.specs.Values.{begin-at}
 use Rattle.driver_load.specs.Lent.{Lent, lent, Run-answer}
 use Rattle.driver_run.specs.Run.{Run-result, run-gives}
-use Rattle.edge_bytes.specs.Bytes.{read-buffer, left-bytes, forwarded}
+use Rattle.edge_bytes.specs.Bytes.{read-buffer, left-bytes}
 
 -- a dictionary whose table is bytes, as numbers
 abbrev pub read-dict : Dict → Dict
@@ -85,27 +85,3 @@ run-bytes-give d b = run-in-bytes (d .table) b (run-gives (read-dict d) (read-le
 abbrev pub run-result : ℕ → ℕ → List ℕ → List ℕ → List ℕ → List ℕ → Dict → Run-result
 run-result n count counts s f w d =
     record { answer = record { number = n; count = count; counts = counts; store = s; findings = f; work = w }; contents = d }
-
--- the numbers that a run is passed for the table, the load, the store, the findings and the list work buffer. A load of over 16,384
--- triples is passed on as another that is too long and leaves the same remainder by 3; of a long list work buffer no run needs more
--- than two numbers for each of 65,535 terms and three more.
-pub record Forwarded-all (t l s f w : List ℕ) (table : List ℕ) (b : Lent) : Type 0 where
-  pub table-numbers : length t ≡ forwarded 262204 1 (length table)
-  pub load-numbers : length l ≡ forwarded 49152 (49155 + length (b .load) / 4 % 3) (length (b .load))
-  pub store-numbers : length s ≡ forwarded 196605 1 (length (b .store))
-  pub findings-numbers : length f ≡ forwarded 327675 1 (length (b .findings))
-  pub work-numbers : length w ≡ forwarded 131076 131076 (length (b .work))
-
--- numbers that suffice for all buffers
-pub record Enough (t l s f w : List ℕ) : Type 0 where
-  pub table-room : 262204 ≤ length t
-  pub load-room : 49157 ≤ length l
-  pub store-room : 196605 ≤ length s
-  pub findings-room : 327675 ≤ length f
-  pub work-room : 131076 ≤ length w
-
--- buffers of bytes that hold just the numbers which a run left for table, store and findings
-pub record Roomy (t s f table store findings : List ℕ) : Type 0 where
-  pub table-room : length table ≡ 4 * length t
-  pub store-room : length store ≡ 4 * length s
-  pub findings-room : length findings ≡ 4 * length f

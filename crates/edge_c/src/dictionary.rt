@@ -1,4 +1,7 @@
 // Start, put and lookup, with numbers lent for the table.
+use common::ENTRY_WIDTH;
+use common::HEADS_WIDTH;
+use common::TABLE_LIMIT;
 use dictionary_index::Counters;
 use dictionary_index::PutNext;
 use dictionary_index::Started;
@@ -17,13 +20,14 @@ ghost use Rattle.dictionary_layout.specs.Layout.{dict};
 ghost use Rattle.dictionary_layout.specs.Dictionary.{valid};
 ghost use Rattle.dictionary_layout.specs.Values.{contents};
 ghost use Rattle.dictionary_index.specs.Values.{start-left, put-left};
-ghost use Rattle.edge_bytes.specs.Bytes.{forwarded};
+ghost use Rattle.common.specs.Sizes.{table-limit};
+ghost use Rattle.edge_c.specs.Forwarded.{table-forwarded};
 ghost use Rattle.edge_c.specs.Calls.{read-dict, start-bytes-give, put-bytes-give, Places};
 ghost use Rattle.edge_c.specs.Values.{placed};
 
 // Start, with as many numbers as it is passed. What stood in the table is not read.
 fn start_on(numbers: &mut [u32], table: &mut [u8], arena: &mut [u8]) -> Started
-    requires { ⌜ length (now numbers) ≡ forwarded 262204 1 (length (now table)) ⌝ }
+    requires { ⌜ length (now numbers) ≡ table-forwarded (length (now table)) ⌝ }
     ensures { λ r. ⌜ start-left r (now (table .exit)) (now (arena .exit)) ≡ start-bytes-give (now (table .entry)) (now (arena .entry)) ⌝ }
 {
     let started = start(&mut *numbers, arena);
@@ -33,10 +37,10 @@ fn start_on(numbers: &mut [u32], table: &mut [u8], arena: &mut [u8]) -> Started
 
 // Start, with numbers that suffice for every table.
 pub fn start_in(numbers: &mut [u32], table: &mut [u8], arena: &mut [u8]) -> Started
-    requires { ⌜ 262204 ≤ length (now numbers) ⌝ }
+    requires { ⌜ table-limit ≤ length (now numbers) ⌝ }
     ensures { λ r. ⌜ start-left r (now (table .exit)) (now (arena .exit)) ≡ start-bytes-give (now (table .entry)) (now (arena .entry)) ⌝ }
 {
-    let n = how_many(table.len(), 262204, 1);
+    let n = how_many(table.len(), TABLE_LIMIT, 1);
     start_on(&mut numbers[..n], table, arena)
 }
 
@@ -49,8 +53,9 @@ fn put_on(
     kind: u32,
     bytes: &[u8],
 ) -> PutNext
-    requires { ⌜ length (now numbers) ≡ forwarded 262204 1 (length (now table)) ⌝ }
-    ensures { λ r. ⌜ put-left r (now (table .exit)) (now (arena .exit)) ≡ put-bytes-give (contents (now (table .entry)) (now (arena .entry)) counters) (term kind (now (bytes .entry))) ⌝ }
+    requires { ⌜ length (now numbers) ≡ table-forwarded (length (now table)) ⌝ }
+    ensures { λ r. ⌜ put-left r (now (table .exit)) (now (arena .exit))
+        ≡ put-bytes-give (contents (now (table .entry)) (now (arena .entry)) counters) (term kind (now (bytes .entry))) ⌝ }
 {
     read_numbers(&*table, &mut *numbers);
     let next = put_by_value(&mut *numbers, arena, counters, kind, bytes);
@@ -68,16 +73,17 @@ pub fn put_in(
     kind: u32,
     bytes: &[u8],
 ) -> PutNext
-    requires { ⌜ 262204 ≤ length (now numbers) ⌝ }
-    ensures { λ r. ⌜ put-left r (now (table .exit)) (now (arena .exit)) ≡ put-bytes-give (dict (now (table .entry)) (now (arena .entry)) terms used) (term kind (now (bytes .entry))) ⌝ }
+    requires { ⌜ table-limit ≤ length (now numbers) ⌝ }
+    ensures { λ r. ⌜ put-left r (now (table .exit)) (now (arena .exit))
+        ≡ put-bytes-give (dict (now (table .entry)) (now (arena .entry)) terms used) (term kind (now (bytes .entry))) ⌝ }
 {
     let counters = Counters { terms, used };
-    let n = how_many(table.len(), 262204, 1);
+    let n = how_many(table.len(), TABLE_LIMIT, 1);
     put_on(&mut numbers[..n], table, arena, counters, kind, bytes)
 }
 
 // Where a term's bytes lie in the arena, with its kind and the refusal's number.
-pub struct Place {
+pub struct TermPlace {
     pub number: u32,
     pub kind: u32,
     pub begin: u32,
@@ -85,20 +91,20 @@ pub struct Place {
 }
 
 // The place that the entry of an id names, in a dictionary that is not broken.
-fn place_of(numbers: &[u32], arena: &[u8], counters: Counters, id: u32) -> Place
+fn place_of(numbers: &[u32], arena: &[u8], counters: Counters, id: u32) -> TermPlace
     requires { ⌜ T (valid (contents (now numbers) (now arena) counters)) ⌝ }
     ensures { λ r. ⌜ Places (contents (now (numbers .entry)) (now (arena .entry)) counters) id (placed r) ⌝ }
 {
     if counters.terms <= id {
-        return Place {
+        return TermPlace {
             number: 12,
             kind: 0,
             begin: 0,
             len: 0,
         };
     }
-    let at = 64 + 4 * (id as usize);
-    Place {
+    let at = HEADS_WIDTH + ENTRY_WIDTH * (id as usize);
+    TermPlace {
         number: 0,
         kind: numbers[at + 2],
         begin: numbers[at],
@@ -107,15 +113,21 @@ fn place_of(numbers: &[u32], arena: &[u8], counters: Counters, id: u32) -> Place
 }
 
 // Lookup, with as many numbers as it is passed.
-fn lookup_on(numbers: &mut [u32], table: &[u8], arena: &[u8], counters: Counters, id: u32) -> Place
-    requires { ⌜ length (now numbers) ≡ forwarded 262204 1 (length (now table)) ⌝ }
+fn lookup_on(
+    numbers: &mut [u32],
+    table: &[u8],
+    arena: &[u8],
+    counters: Counters,
+    id: u32,
+) -> TermPlace
+    requires { ⌜ length (now numbers) ≡ table-forwarded (length (now table)) ⌝ }
     ensures { λ r. ⌜ Places (read-dict (contents (now (table .entry)) (now (arena .entry)) counters)) id (placed r) ⌝ }
 {
     read_numbers(table, &mut *numbers);
     if is_valid(&*numbers, arena, counters) {
         return place_of(&*numbers, arena, counters, id);
     }
-    Place {
+    TermPlace {
         number: 1,
         kind: 0,
         begin: 0,
@@ -131,11 +143,11 @@ pub fn lookup_in(
     terms: u32,
     used: u32,
     id: u32,
-) -> Place
-    requires { ⌜ 262204 ≤ length (now numbers) ⌝ }
+) -> TermPlace
+    requires { ⌜ table-limit ≤ length (now numbers) ⌝ }
     ensures { λ r. ⌜ Places (read-dict (dict (now (table .entry)) (now (arena .entry)) terms used)) id (placed r) ⌝ }
 {
     let counters = Counters { terms, used };
-    let n = how_many(table.len(), 262204, 1);
+    let n = how_many(table.len(), TABLE_LIMIT, 1);
     lookup_on(&mut numbers[..n], table, arena, counters, id)
 }

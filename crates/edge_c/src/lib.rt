@@ -2,11 +2,17 @@
 // calls on numbers work on, and lends them to one function, which knows them as slices only.
 mod dictionary; // dictionary.rt: start, put and lookup
 mod run; // run.rt: run
+mod sizes; // sizes.rt: how many numbers the calls are passed
 
 use crate::dictionary::lookup_in;
 use crate::dictionary::put_in;
 use crate::dictionary::start_in;
 use crate::run::run_in;
+use crate::sizes::FINDINGS;
+use crate::sizes::LOAD_ARRAY;
+use crate::sizes::STORE;
+use crate::sizes::WORK;
+use common::TABLE_LIMIT;
 ghost use mathlib.Core.Path.{_≡_};
 ghost use Rattle.dictionary_layout.specs.Terms.{term};
 ghost use Rattle.dictionary_layout.specs.Layout.{dict};
@@ -14,21 +20,6 @@ ghost use Rattle.dictionary_layout.specs.Calls.{start-result, put-result};
 ghost use Rattle.driver_load.specs.Lent.{lent};
 ghost use Rattle.edge_c.specs.Calls.{read-dict, start-bytes-give, put-bytes-give, place-answer, Places, run-bytes-give};
 ghost use Rattle.edge_c.specs.Calls.{run-result};
-
-// The numbers of the longest table: 64 chain heads, and four for each of 65,535 entries.
-const TABLE: usize = 262204;
-
-// The numbers of the longest load, and up to five more: a load that is too long is passed on as one of 49,155 to 49,157 numbers.
-const LOAD: usize = 49157;
-
-// The numbers of the largest store: 65,535 triples.
-const STORE: usize = 196605;
-
-// The numbers of the largest findings: 65,535 records.
-const FINDINGS: usize = 327675;
-
-// The numbers of the list work buffer that a run needs at most: two for each of 65,535 terms and three more.
-const WORK: usize = 131076;
 
 // Starts a dictionary: refusal 4, 7 or 0. The counters are written.
 #[no_mangle]
@@ -38,9 +29,10 @@ pub extern "C" fn tablestork_start(
     terms: &mut u32,
     used: &mut u32,
 ) -> u32
-    ensures { λ r. ⌜ start-result r (dict (now (table .exit)) (now (arena .exit)) (now (terms .exit)) (now (used .exit))) ≡ start-bytes-give (now (table .entry)) (now (arena .entry)) ⌝ }
+    ensures { λ r. ⌜ start-result r (dict (now (table .exit)) (now (arena .exit)) (now (terms .exit)) (now (used .exit)))
+        ≡ start-bytes-give (now (table .entry)) (now (arena .entry)) ⌝ }
 {
-    let mut numbers = [0u32; TABLE];
+    let mut numbers = [0u32; TABLE_LIMIT];
     let started = start_in(&mut numbers, table, arena);
     *terms = started.counters.terms;
     *used = started.counters.used;
@@ -58,9 +50,12 @@ pub extern "C" fn tablestork_put(
     bytes: &[u8],
     id: &mut u32,
 ) -> u32
-    ensures { λ r. ⌜ put-result r (now (id .exit)) (dict (now (table .exit)) (now (arena .exit)) (now (terms .exit)) (now (used .exit))) ≡ put-bytes-give (dict (now (table .entry)) (now (arena .entry)) (now (terms .entry)) (now (used .entry))) (term kind (now (bytes .entry))) ⌝ }
+    ensures { λ r. ⌜ put-result r (now (id .exit))
+        (dict (now (table .exit)) (now (arena .exit)) (now (terms .exit)) (now (used .exit)))
+        ≡ put-bytes-give (dict (now (table .entry)) (now (arena .entry)) (now (terms .entry)) (now (used .entry)))
+        (term kind (now (bytes .entry))) ⌝ }
 {
-    let mut numbers = [0u32; TABLE];
+    let mut numbers = [0u32; TABLE_LIMIT];
     let next = put_in(&mut numbers, table, arena, *terms, *used, kind, bytes);
     *terms = next.counters.terms;
     *used = next.counters.used;
@@ -80,9 +75,10 @@ pub extern "C" fn tablestork_lookup(
     begin: &mut u64,
     len: &mut u64,
 ) -> u32
-    ensures { λ r. ⌜ Places (read-dict (dict (now (table .entry)) (now (arena .entry)) terms used)) id (place-answer r (now (kind .exit)) (now (begin .exit)) (now (len .exit))) ⌝ }
+    ensures { λ r. ⌜ Places (read-dict (dict (now (table .entry)) (now (arena .entry)) terms used)) id
+        (place-answer r (now (kind .exit)) (now (begin .exit)) (now (len .exit))) ⌝ }
 {
-    let mut numbers = [0u32; TABLE];
+    let mut numbers = [0u32; TABLE_LIMIT];
     let place = lookup_in(&mut numbers, table, arena, terms, used, id);
     *kind = place.kind;
     *begin = place.begin as u64;
@@ -104,10 +100,14 @@ pub extern "C" fn tablestork_run(
     triples: &mut u32,
     counts: &mut [u32; 5],
 ) -> u32
-    ensures { λ r. ⌜ run-result r (now (triples .exit)) (now (counts .exit)) (now (store .exit)) (now (findings .exit)) (now (work .exit)) (dict (now (table .exit)) (now (arena .exit)) (now (terms .exit)) (now (used .exit))) ≡ run-bytes-give (dict (now (table .entry)) (now (arena .entry)) (now (terms .entry)) (now (used .entry))) (lent (now (load .entry)) (now (store .entry)) (now (findings .entry)) (now (work .entry))) ⌝ }
+    ensures { λ r. ⌜ run-result r (now (triples .exit)) (now (counts .exit))
+        (now (store .exit)) (now (findings .exit)) (now (work .exit))
+        (dict (now (table .exit)) (now (arena .exit)) (now (terms .exit)) (now (used .exit)))
+        ≡ run-bytes-give (dict (now (table .entry)) (now (arena .entry)) (now (terms .entry)) (now (used .entry)))
+        (lent (now (load .entry)) (now (store .entry)) (now (findings .entry)) (now (work .entry))) ⌝ }
 {
-    let mut t = [0u32; TABLE];
-    let mut l = [0u32; LOAD];
+    let mut t = [0u32; TABLE_LIMIT];
+    let mut l = [0u32; LOAD_ARRAY];
     let mut s = [0u32; STORE];
     let mut f = [0u32; FINDINGS];
     let mut w = [0u32; WORK];

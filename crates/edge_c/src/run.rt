@@ -1,4 +1,11 @@
 // Run, with numbers lent for all its buffers but the arena.
+use crate::sizes::FINDINGS;
+use crate::sizes::LOAD;
+use crate::sizes::LONGER_LOAD;
+use crate::sizes::STORE;
+use crate::sizes::WORK;
+use common::LOAD_WIDTH;
+use common::TABLE_LIMIT;
 use dictionary_index::Counters;
 use driver_run::RunNext;
 use driver_run::run;
@@ -13,7 +20,8 @@ ghost use Rattle.dictionary_layout.specs.Values.{contents};
 ghost use Rattle.driver_load.specs.Lent.{lent};
 ghost use Rattle.driver_run.specs.Values.{run-left};
 ghost use Rattle.edge_bytes.specs.Bytes.{changes, left-bytes, cleared};
-ghost use Rattle.edge_c.specs.Calls.{run-bytes-give, Forwarded-all, Enough, Roomy};
+ghost use Rattle.edge_c.specs.Calls.{run-bytes-give};
+ghost use Rattle.edge_c.specs.Forwarded.{Forwarded-all, Enough, Roomy};
 
 // Writes the numbers that a run left back into their buffers, and zeros the list work buffer, unless the run's answer says that it
 // changed none.
@@ -28,7 +36,10 @@ fn write_all(
     work: &mut [u8],
 )
     requires { ⌜ (T (changes answer) → Roomy (now t) (now s) (now f) (now table) (now store) (now findings)) ⌝ }
-    ensures { λ _. ⌜ (now (table .exit) ≡ left-bytes answer (now (table .entry)) (now (t .entry))) × (now (store .exit) ≡ left-bytes answer (now (store .entry)) (now (s .entry))) × (now (findings .exit) ≡ left-bytes answer (now (findings .entry)) (now (f .entry))) × (now (work .exit) ≡ cleared answer (now (work .entry))) ⌝ }
+    ensures { λ _. ⌜ (now (table .exit) ≡ left-bytes answer (now (table .entry)) (now (t .entry)))
+        × (now (store .exit) ≡ left-bytes answer (now (store .entry)) (now (s .entry)))
+        × (now (findings .exit) ≡ left-bytes answer (now (findings .entry)) (now (f .entry)))
+        × (now (work .exit) ≡ cleared answer (now (work .entry))) ⌝ }
 {
     write_back(answer, t, table);
     write_back(answer, s, store);
@@ -51,8 +62,11 @@ fn run_on(
     findings: &mut [u8],
     work: &mut [u8],
 ) -> RunNext
-    requires { ⌜ Forwarded-all (now t) (now l) (now s) (now f) (now w) (now table) (lent (now load) (now store) (now findings) (now work)) ⌝ }
-    ensures { λ r. ⌜ run-left r (now (table .exit)) (now (arena .exit)) (now (store .exit)) (now (findings .exit)) (now (work .exit)) ≡ run-bytes-give (contents (now (table .entry)) (now (arena .entry)) counters) (lent (now (load .entry)) (now (store .entry)) (now (findings .entry)) (now (work .entry))) ⌝ }
+    requires { ⌜ Forwarded-all (now t) (lent (now l) (now s) (now f) (now w)) (now table)
+        (lent (now load) (now store) (now findings) (now work)) ⌝ }
+    ensures { λ r. ⌜ run-left r (now (table .exit)) (now (arena .exit)) (now (store .exit)) (now (findings .exit)) (now (work .exit))
+        ≡ run-bytes-give (contents (now (table .entry)) (now (arena .entry)) counters)
+        (lent (now (load .entry)) (now (store .entry)) (now (findings .entry)) (now (work .entry))) ⌝ }
 {
     read_numbers(&*table, &mut *t);
     read_numbers(load, &mut *l);
@@ -86,15 +100,17 @@ pub fn run_in(
     findings: &mut [u8],
     work: &mut [u8],
 ) -> RunNext
-    requires { ⌜ Enough (now t) (now l) (now s) (now f) (now w) ⌝ }
-    ensures { λ r. ⌜ run-left r (now (table .exit)) (now (arena .exit)) (now (store .exit)) (now (findings .exit)) (now (work .exit)) ≡ run-bytes-give (dict (now (table .entry)) (now (arena .entry)) terms used) (lent (now (load .entry)) (now (store .entry)) (now (findings .entry)) (now (work .entry))) ⌝ }
+    requires { ⌜ Enough (now t) (lent (now l) (now s) (now f) (now w)) ⌝ }
+    ensures { λ r. ⌜ run-left r (now (table .exit)) (now (arena .exit)) (now (store .exit)) (now (findings .exit)) (now (work .exit))
+        ≡ run-bytes-give (dict (now (table .entry)) (now (arena .entry)) terms used)
+        (lent (now (load .entry)) (now (store .entry)) (now (findings .entry)) (now (work .entry))) ⌝ }
 {
     let counters = Counters { terms, used };
-    let k1 = how_many(table.len(), 262204, 1);
-    let k2 = how_many(load.len(), 49152, 49155 + load.len() / 4 % 3);
-    let k3 = how_many(store.len(), 196605, 1);
-    let k4 = how_many(findings.len(), 327675, 1);
-    let k5 = how_many(work.len(), 131076, 131076);
+    let k1 = how_many(table.len(), TABLE_LIMIT, 1);
+    let k2 = how_many(load.len(), LOAD, LONGER_LOAD + load.len() / 4 % LOAD_WIDTH);
+    let k3 = how_many(store.len(), STORE, 1);
+    let k4 = how_many(findings.len(), FINDINGS, 1);
+    let k5 = how_many(work.len(), WORK, WORK);
     run_on(
         &mut t[..k1],
         &mut l[..k2],

@@ -1,3 +1,4 @@
 pub mod Names
 pub mod Printing
+pub mod Room
 pub mod Enough

@@ -25,7 +25,10 @@ use Rattle.edge_closer_text.specs.Input.{bad-line, input, parse}
 use Rattle.edge_closer_text.specs.Output.{answer, refusal, bad-line-text}
 use Rattle.edge_decimal.specs.Contracts.{Wrote}
 use Rattle.edge_closer_text.specs.Contracts.{AnswerFits}
-use Rattle.edge_closer_text.proofs.Longest.{parse-cut}
+use Rattle.edge_closer_text.proofs.Cut.{parse-cut}
+use Rattle.common.specs.Sizes.{store-width, finding-width}
+use Rattle.edge_closer_text.specs.Sizes.{triple-limit, record-limit, store-length, findings-length, input-length, output-length}
+use Rattle.edge_closer_run.specs.Sizes.{table-length, arena-length, work-length}
 use Rattle.edge_closer_run.specs.Program.{named, dictionary, ran, by-number, printed-run, printed, output}
 use Rattle.edge_closer_run.specs.Contracts.{Ran}
 
@@ -48,10 +51,10 @@ pub record Counted (a : Run-answer) (cap fcap : ℕ) : Type 0 where
 -- those of an accepted run
 module _ (b : Lent) where
   abbrev cap : ℕ
-  cap = length (b .store) / 3
+  cap = length (b .store) / store-width
 
   abbrev fcap : ℕ
-  fcap = length (b .findings) / 5
+  fcap = length (b .findings) / finding-width
 
   outcome-counted : (tl al : ℕ) (ts : List Term) → AcceptedRun tl al ts b (abstract-run tl al ts b)
       → Counted (abstract-run tl al ts b .answer) cap fcap
@@ -84,13 +87,13 @@ module _ (b : Lent) where
 
 -- A RUN OF THE PROGRAM
 pub ran-as : (n : ℕ) (load store findings : List ℕ) (x : Start-result) (d : Dict) {r : RunNext} {t a s f w : List ℕ}
-    → x ≡ start-gives (replicate 2464 0) (replicate 16384 0) → d ≡ named n (x .contents)
-    → run-left r t a s f w ≡ run-gives d (lent load store findings (replicate 1200 0))
+    → x ≡ start-gives (replicate table-length 0) (replicate arena-length 0) → d ≡ named n (x .contents)
+    → run-left r t a s f w ≡ run-gives d (lent load store findings (replicate work-length 0))
     → Ran (ran n load store findings) (r .answer) s f
 unfolding ran dictionary
 ran-as n load store findings x d {r} {t} {a} {s} {f} {w} e₁ e₂ e₃ =
-    let e : run-left r t a s f w ≡ run-gives (dictionary n) (lent load store findings (replicate 1200 0)) = e₃
-    ∙ ap (λ (y : Dict). run-gives y (lent load store findings (replicate 1200 0)))
+    let e : run-left r t a s f w ≡ run-gives (dictionary n) (lent load store findings (replicate work-length 0)) = e₃
+    ∙ ap (λ (y : Dict). run-gives y (lent load store findings (replicate work-length 0)))
     (e₂ ∙ ap (λ (y : Start-result). named n (y .contents)) e₁) in
     record {
       number = ap (λ (y : Run-result). y .answer .number) e;
@@ -102,9 +105,10 @@ ran-as n load store findings x d {r} {t} {a} {s} {f} {w} e₁ e₂ e₃ =
 
 -- in the program's buffers
 abbrev run-of : ℕ → List ℕ → Run-answer
-run-of n load = ran n load (replicate 6000 0) (replicate 2000 0)
+run-of n load = ran n load (replicate store-length 0) (replicate findings-length 0)
 
 module _ (n : ℕ) (load : List ℕ) {r : RunAnswer} {s f : List ℕ} (h : Ran (run-of n load) r s f) where
+  -- a refused run in print
   pub refusal-printed : r .number ≢ 0 → refusal (r .number) ≡ printed-run n load
   unfolding printed-run
   refusal-printed z = go (r .number) z ∙ ap (λ (k : ℕ). by-number k (run-of n load)) (h .number)
@@ -114,21 +118,29 @@ module _ (n : ℕ) (load : List ℕ) {r : RunAnswer} {s f : List ℕ} (h : Ran (
       go (suc k) z = refl
 
   module _ (z : r .number ≡ 0) where
-    pub run-counted : (length (r .counts) ≡ 5) × (total (r .counts) ≤ 400)
+    -- the counts of an accepted run fit into the program's buffers
+    run-fits : Counted (run-of n load) triple-limit record-limit
     unfolding ran
-    run-counted =
-        let c = counted (lent load (replicate 6000 0) (replicate 2000 0) (replicate 1200 0)) (dictionary n) (sym (h .number) ∙ z) in
-        (ap length (h .counts) ∙ c .five, subst (λ (k : List ℕ). total k ≤ 400) (sym (h .counts)) (c .records-fit))
+    run-fits =
+        counted (lent load (replicate store-length 0) (replicate findings-length 0) (replicate work-length 0)) (dictionary n)
+        (sym (h .number) ∙ z)
 
-    pub answer-fits : {k : ℕ} {out : List ℕ} → k ≡ total (r .counts) → length s ≡ 6000 → length f ≡ 2000 → 88033 ≤ length out
-        → AnswerFits s (r .count) f k out
-    unfolding ran
+    -- so the records can be counted,
+    pub run-counted : (length (r .counts) ≡ 5) × (total (r .counts) ≤ record-limit)
+    run-counted =
+        let c = run-fits in
+        (ap length (h .counts) ∙ c .five, subst (λ (k : List ℕ). total k ≤ record-limit) (sym (h .counts)) (c .records-fit))
+
+    -- there is room to print them,
+    pub answer-fits : {k : ℕ} {out : List ℕ} → k ≡ total (r .counts) → length s ≡ store-length → length f ≡ findings-length
+        → output-length ≤ length out → AnswerFits s (r .count) f k out
     answer-fits e x y o =
-        let c = counted (lent load (replicate 6000 0) (replicate 2000 0) (replicate 1200 0)) (dictionary n) (sym (h .number) ∙ z) in
-        let m : r .count ≤ 2000 = subst (λ (j : ℕ). j ≤ 2000) (sym (h .count)) (c .triples-fit) in
+        let c = run-fits in
+        let m : r .count ≤ triple-limit = subst (λ (j : ℕ). j ≤ triple-limit) (sym (h .count)) (c .triples-fit) in
         let q = run-counted .1 in
         record { stored = omega arith; found = omega arith; room = omega arith }
 
+    -- and what is printed is the run in print
     pub answer-printed : {k : ℕ} → k ≡ total (r .counts) → answer s (r .count) f k ≡ printed-run n load
     unfolding printed-run
     answer-printed e =
@@ -145,13 +157,13 @@ pub output-good : (text : List ℕ) {n : ℕ} {ids : List ℕ} → parse text �
 unfolding output
 output-good text e = sym (ap printed e)
 
--- the first 33,005 bytes of an input decide it
-pub output-cut : (text : List ℕ) → output (take 33005 text) ≡ output text
+-- the first bytes of an input, as many as the program reads, decide it
+pub output-cut : (text : List ℕ) → output (take input-length text) ≡ output text
 unfolding output
 output-cut text = ap printed (parse-cut text)
 
 -- as many bytes as were read, or all where there is room for more
-pub output-read : (room : List ℕ) (n : ℕ) (text : List ℕ) → length room ≡ 33005 → take n room ≡ take (length room) text
+pub output-read : (room : List ℕ) (n : ℕ) (text : List ℕ) → length room ≡ input-length → take n room ≡ take (length room) text
     → output (take n room) ≡ output text
 output-read room n text l e = ap output (e ∙ ap (λ (k : ℕ). take k text) l) ∙ output-cut text
 

@@ -1,5 +1,5 @@
--- What program closer prints for an input: it puts the named nodes urn:t1 to urn:tN, closes the load in a store of 2,000 triples with
--- findings of 400 records, and prints the answer, or the refusal. REFERENCE 10. Assumes nothing.
+-- What program closer prints for an input: it puts the named nodes urn:t1 to urn:tN, closes the load in its store, and prints the answer
+-- and the findings, or the refusal. REFERENCE 10. Assumes nothing.
 use mathlib.Core.List.{List}
 use Prim.Native.Nat.{ℕ, zero, suc}
 use lib.ListN.{replicate}
@@ -9,30 +9,32 @@ use Rattle.dictionary_layout.specs.Layout.{Dict}
 use Rattle.dictionary_layout.specs.Calls.{start-gives, put-gives}
 use Rattle.driver_load.specs.Lent.{Run-answer, lent}
 use Rattle.driver_run.specs.Run.{run-gives}
+use Rattle.edge_closer_text.specs.Sizes.{store-length, findings-length}
 use Rattle.edge_closer_text.specs.Input.{Parsed, bad-line, input, parse}
 use Rattle.edge_closer_text.specs.Output.{answer, refusal, bad-line-text, name}
+use Rattle.edge_closer_run.specs.Sizes.{table-length, arena-length, work-length}
 
 -- a dictionary after the names urn:t1 to urn:tN were put
 unfoldable pub named : ℕ → Dict → Dict
 named zero d = d
 named (suc n) d = put-gives (named n d) (term 1 (name (suc n))) .contents
 
--- the dictionary of a run: 600 entries and 16,384 bytes
+-- the dictionary of a run
 unfoldable pub dictionary : ℕ → Dict
-dictionary n = named n (start-gives (replicate 2464 0) (replicate 16384 0) .contents)
+dictionary n = named n (start-gives (replicate table-length 0) (replicate arena-length 0) .contents)
 
--- a run over it, in these stores and findings and a list work buffer of 1,200 numbers
+-- a run over it, in this store and these findings
 unfoldable pub ran : ℕ → List ℕ → List ℕ → List ℕ → Run-answer
-ran n load store findings = run-gives (dictionary n) (lent load store findings (replicate 1200 0)) .answer
+ran n load store findings = run-gives (dictionary n) (lent load store findings (replicate work-length 0)) .answer
 
 -- a run in print, by its number
 abbrev pub by-number : ℕ → Run-answer → List ℕ
 by-number zero r = answer (r .store) (r .count) (r .findings) (total (r .counts))
 by-number (suc n) r = refusal (suc n)
 
--- the run of a load in print: store of 2,000 triples, findings of 400 records
+-- the run of a load in print
 unfoldable pub printed-run : ℕ → List ℕ → List ℕ
-printed-run n load = let r = ran n load (replicate 6000 0) (replicate 2000 0) in by-number (r .number) r
+printed-run n load = let r = ran n load (replicate store-length 0) (replicate findings-length 0) in by-number (r .number) r
 
 -- by what was read
 abbrev pub printed : Parsed → List ℕ

@@ -1,4 +1,9 @@
 pub mod Writing
-pub mod Reading
+pub mod Printing
+pub mod Parts
+pub mod IdLines
+pub mod Parsing
+pub mod Lengths
+pub mod Cut
 pub mod Longest
 pub mod Cases

@@ -1,19 +1,19 @@
 -- Text written into a lent buffer: one piece after the other, a line, a table. Assumes nothing.
-use mathlib.Core.Path.{_≡_, refl, sym, ap, _∙_}
+use mathlib.Core.Path.{_≡_, refl, sym, _∙_}
 use mathlib.Core.List.{List, [], _∷_, _++_, append-assoc, append-nil}
 use Prim.Native.Nat.{ℕ, zero, suc, _+_, _-_, _*_, _^_, _≤_, _<_}
-use native.Mathlib.Nat.{add-suc, add-zero, mul-zero, mul-suc, mul-le-mul-left, mul-le-mul-right}
+use native.Mathlib.Nat.{add-suc, add-zero, mul-zero, mul-suc}
 use native.Mathlib.Numerals.{add-one}
 use native.Mathlib.Omega.{arith}
-use lib.ListN.{replicate, length, getD, take, drop, set, length-append, length-take, length-drop, drop-of-length-le}
+use lib.ListN.{length, getD, take, drop, set, length-append, length-take, length-drop, drop-of-length-le}
 use lib.Seq.{take-suc, drop-cons, drop-drop, take-all, getD-drop}
-use Rattle.common.specs.Triples.{Triple, Finding, concat-map}
-use Rattle.common.specs.Rows.{flat, flat-findings, filled}
+use Rattle.common.proofs.Widths.{rows-apart}
 use Rattle.edge_decimal.specs.Decimal.{digits}
-use Rattle.edge_closer_text.specs.Output.{ending, line, table, printed, answer}
 use Rattle.edge_decimal.specs.Contracts.{Wrote}
-use Rattle.edge_closer_text.specs.Contracts.{part, TableFits, AnswerFits}
 use Rattle.edge_decimal.proofs.Writing.{short-digits, wrote-byte, wrote-length, wrote-none, wrote-then}
+use Rattle.edge_closer_text.specs.Sizes.{number-width}
+use Rattle.edge_closer_text.specs.Output.{ending, line, table}
+use Rattle.edge_closer_text.specs.Contracts.{part, TableFits}
 
 -- BYTES, copied one after the other
 pub record Copied (bytes old : List ℕ) (at : ℕ) (new : List ℕ) (i : ℕ) : Type 0 where
@@ -59,19 +59,20 @@ ending-some (suc n) f = refl
 abbrev pub Words : List ℕ → Type 0
 Words ns = (k : ℕ) → getD ns k 0 < 2 ^ 32
 
--- the loop: what is left gives the same as the whole, and no number takes more than eleven bytes
+-- the loop: what is left gives the same as the whole, and no number takes more bytes than its width
 pub record Lined (ns old : List ℕ) (at : ℕ) (new : List ℕ) (to i : ℕ) : Type 0 where
   pub text : List ℕ
   pub wrote : Wrote old at text new to
   pub left : text ++ line (drop i ns) ≡ line ns
   pub upto : i ≤ length ns
-  pub room : to ≤ at + 11 * i
+  pub room : to ≤ at + number-width * i
 
 -- nothing was written
-pub lined-start : (ns old : List ℕ) (at : ℕ) → at + 11 * length ns ≤ length old → Lined ns old at old at 0
+pub lined-start : (ns old : List ℕ) (at : ℕ) → at + number-width * length ns ≤ length old → Lined ns old at old at 0
 lined-start ns old at h = record { text = []; wrote = wrote-none old at (omega arith); left = refl; upto = omega arith; room = omega arith }
 
-module _ {ns old : List ℕ} {at : ℕ} {new : List ℕ} {to i : ℕ} (fits : at + 11 * length ns ≤ length old) (c : Lined ns old at new to i) where
+module _ {ns old : List ℕ} {at : ℕ} {new : List ℕ} {to i : ℕ} (fits : at + number-width * length ns ≤ length old)
+    (c : Lined ns old at new to i) where
   -- the buffer keeps its length
   pub lined-length : length new ≡ length old
   lined-length = wrote-length (c .wrote)
@@ -109,18 +110,18 @@ module _ {ns old : List ℕ} {at : ℕ} {new : List ℕ} {to i : ℕ} (fits : at
       })
 
 -- A TABLE, a line after the others. Parts of a lent slice hold numbers too,
-words-drop : (n : ℕ) (ns : List ℕ) → Words ns → Words (drop n ns)
+pub words-drop : (n : ℕ) (ns : List ℕ) → Words ns → Words (drop n ns)
 words-drop n ns f k = rw (getD-drop n ns k 0) (f (n + k))
 
 -- the front of one,
-words-take : (n : ℕ) (ns : List ℕ) → Words ns → Words (take n ns)
+pub words-take : (n : ℕ) (ns : List ℕ) → Words ns → Words (take n ns)
 words-take zero ns f k = omega arith
 words-take (suc n) [] f k = omega arith
 words-take (suc n) (x ∷ ns) f zero = f zero
 words-take (suc n) (x ∷ ns) f (suc k) = words-take n ns (λ j. f (suc j)) k
 
 -- and a line of them is short
-line-short : (ns : List ℕ) → Words ns → length (line ns) ≤ 11 * length ns
+pub line-short : (ns : List ℕ) → Words ns → length (line ns) ≤ number-width * length ns
 unfolding line
 line-short [] f = omega arith
 line-short (n ∷ ns) f =
@@ -128,18 +129,14 @@ line-short (n ∷ ns) f =
     let r = line-short ns (λ k. f (suc k)) in
     simp length-append (omega arith)
 
--- rows lie one after the other
-rows-apart : (w i rows : ℕ) → i < rows → w * i + w ≤ w * rows
-rows-apart w i rows h = rw (← mul-suc w i) (mul-le-mul-left w h)
-
--- the loop: what is left gives the same as the whole, and no number takes more than eleven bytes
+-- the loop: what is left gives the same as the whole, and no number takes more bytes than its width
 pub record Tabled (ns : List ℕ) (w rows : ℕ) (old : List ℕ) (at : ℕ) (new : List ℕ) (to start i : ℕ) : Type 0 where
   pub text : List ℕ
   pub wrote : Wrote old at text new to
   pub left : text ++ table w (rows - i) (drop start ns) ≡ table w rows ns
   pub place : start ≡ w * i
   pub upto : i ≤ rows
-  pub room : to ≤ at + 11 * start
+  pub room : to ≤ at + number-width * start
 
 -- nothing was written
 pub tabled-start : {ns : List ℕ} {w rows : ℕ} {old : List ℕ} {at : ℕ} → TableFits ns w rows old at → Tabled ns w rows old at old at 0 0
@@ -176,7 +173,7 @@ module _ {ns : List ℕ} {w rows : ℕ} {old : List ℕ} {at : ℕ} {new : List 
     part-length = let g = tabled-row in let d = length-drop start ns in simp length-take (omega arith)
 
     -- there is room for its line
-    pub tabled-fits : to + 11 * length (part ns start (start + w)) ≤ length new
+    pub tabled-fits : to + number-width * length (part ns start (start + w)) ≤ length new
     tabled-fits =
         let a = rows-apart w i rows h in
         let p = c .place in
@@ -206,97 +203,3 @@ module _ {ns : List ℕ} {w rows : ℕ} {old : List ℕ} {at : ℕ} {new : List 
           let r = c .room in
           omega arith;
     }
-
--- THE OUTPUTS. A number after a word:
-module _ {old : List ℕ} {at : ℕ} {word b : List ℕ} {m : ℕ} (n : ℕ) (h : n < 2 ^ 32) (w : Wrote old at word b m) where
-  -- there is room for the number
-  pub number-fits : at + length word + 10 ≤ length old → m + length (digits n) ≤ length b
-  number-fits f = let s = short-digits n h in let e = w .end in let l = wrote-length w in omega arith
-
-  -- and a byte after it
-  pub byte-fits : {d : List ℕ} {e : ℕ} → at + length word + 11 ≤ length old → Wrote b m (digits n) d e → e < length d
-  byte-fits f v =
-      let s = short-digits n h in
-      let i = w .end in
-      let j = v .end in
-      let k = wrote-length w in
-      let l = wrote-length v in
-      omega arith
-
--- a table of numbers is short
-table-short : (w k : ℕ) (ns : List ℕ) → Words ns → length (table w k ns) ≤ 11 * (w * k)
-unfolding table
-table-short w zero ns f = omega arith
-table-short w (suc k) ns f =
-    let s = line-short (take w ns) (words-take w ns f) in
-    let r = table-short w k (drop w ns) (words-drop w ns f) in
-    let l = length-take w ns in
-    rw (mul-suc w k) (simp length-append (omega arith))
-
--- the counts are numbers
-pub head-words : (t r : ℕ) → t < 2 ^ 32 → r < 2 ^ 32 → Words (0 ∷ t ∷ r ∷ [])
-head-words t r h i zero = omega arith
-head-words t r h i (suc zero) = h
-head-words t r h i (suc (suc zero)) = i
-head-words t r h i (suc (suc (suc k))) = omega arith
-
-module _ {store : List ℕ} {triples : ℕ} {findings : List ℕ} {records : ℕ} {old : List ℕ} (f : AnswerFits store triples findings records old)
-    (h : triples < 2 ^ 32) (i : records < 2 ^ 32) {b : List ℕ} {m : ℕ} (w : Wrote old 0 (line (0 ∷ triples ∷ records ∷ [])) b m) where
-  -- there is room for the triples after the counts,
-  pub triples-fit : TableFits store 3 triples b m
-  triples-fit = record {
-    held = f .stored;
-    room =
-        let s = line-short (0 ∷ triples ∷ records ∷ []) (head-words triples records h i) in
-        let e = w .end in
-        let l = wrote-length w in
-        let r = f .room in
-        omega arith;
-  }
-
-  -- for the findings after them, five numbers a line or fewer,
-  pub findings-fit : {d : List ℕ} {n width : ℕ} → width ≤ 5 → Words store → Wrote b m (table 3 triples store) d n
-      → TableFits findings width records d n
-  findings-fit u q v =
-      let a = mul-le-mul-right records u in
-      record {
-        held = let o = f .found in omega arith;
-        room =
-            let s = line-short (0 ∷ triples ∷ records ∷ []) (head-words triples records h i) in
-            let t = table-short 3 triples store q in
-            let e = w .end in
-            let g = v .end in
-            let k = wrote-length w in
-            let l = wrote-length v in
-            let r = f .room in
-            omega arith;
-      }
-
-  -- and the three pieces are the answer
-  pub answer-whole : {d : List ℕ} {n : ℕ} {c : List ℕ} {last : ℕ} → Wrote b m (table 3 triples store) d n
-      → Wrote d n (table 5 records findings) c last → Wrote old 0 (answer store triples findings records) c last
-  answer-whole u v = wrote-then w (wrote-then u v)
-
--- A STORE that holds triples, and findings, as a run leaves them: the output is that of the triples and findings
-triples-table : (ts : List Triple) (rest : List ℕ) → table 3 (length ts) (flat ts ++ rest)
-    ≡ concat-map ts (λ t. line (t .s ∷ t .p ∷ t .o ∷ []))
-unfolding table
-triples-table [] rest = refl
-triples-table (t ∷ ts) rest = ap (λ x. line (t .s ∷ t .p ∷ t .o ∷ []) ++ x) (triples-table ts rest)
-
--- the lines of the findings
-findings-table : (fs : List Finding) (rest : List ℕ)
-    → table 5 (length fs) (flat-findings fs ++ rest) ≡ concat-map fs (λ x. line (x .check ∷ x .a ∷ x .b ∷ x .c ∷ x .d ∷ []))
-unfolding table
-findings-table [] rest = refl
-findings-table (x ∷ fs) rest = ap (λ l. line (x .check ∷ x .a ∷ x .b ∷ x .c ∷ x .d ∷ []) ++ l) (findings-table fs rest)
-
--- all of it
-pub answer-printed : (store findings : List ℕ) (ts : List Triple) (fs : List Finding)
-    → answer (filled store (flat ts)) (length ts) (filled findings (flat-findings fs)) (length fs) ≡ printed ts fs
-answer-printed store findings ts fs =
-    rw (
-      triples-table ts (replicate (length store - length (flat ts)) 0),
-      findings-table fs
-          (replicate (length findings - length (flat-findings fs)) 0),
-    ) refl

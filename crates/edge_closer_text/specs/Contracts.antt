@@ -6,6 +6,8 @@ use mathlib.Core.List.{List, [], _∷_}
 use Prim.Native.Nat.{ℕ, _+_, _-_, _*_, _≤_, _<_}
 use lib.ListN.{length, take, drop}
 use lib.Seq.{sets}
+use Rattle.common.specs.Sizes.{load-width, store-width, finding-width}
+use Rattle.edge_closer_text.specs.Sizes.{line-limit, number-width, three-width}
 use Rattle.edge_closer_text.specs.Input.{fields, id-line, Parsed, bad-line, input, read, parse}
 use Rattle.edge_closer_text.specs.declared.input.Spaces.{Spaces}
 use Rattle.edge_closer_text.specs.declared.input.Spaces.the-variants.{Two, Other}
@@ -37,7 +39,7 @@ ids-of No-ids = none
 -- the answer of `parse`, with the ids that it left in the lent buffer
 abbrev pub parsed-of : Answer → List ℕ → Parsed
 parsed-of (Bad k) ids = bad-line k
-parsed-of (Input n k) ids = input n (take (3 * k) ids)
+parsed-of (Input n k) ids = input n (take (load-width * k) ids)
 
 -- how many id lines an answer counts
 abbrev pub lines-of : Answer → ℕ
@@ -48,15 +50,15 @@ lines-of (Input n k) = k
 pub record ParseOf (text old : List ℕ) (r : Answer) (new : List ℕ) : Type 0 where
   pub answer : parsed-of r new ≡ parse text
   pub ids : new ≡ sets old 0 (read text .ids)
-  pub few : lines-of r ≤ 1000
+  pub few : lines-of r ≤ line-limit
 
--- rows of `width` numbers, and room for a line each: a number has at most ten digits
+-- rows of `width` numbers, and room for a line each
 pub record TableFits (numbers : List ℕ) (width rows : ℕ) (out : List ℕ) (at : ℕ) : Type 0 where
   pub held : width * rows ≤ length numbers
-  pub room : at + 11 * (width * rows) ≤ length out
+  pub room : at + number-width * (width * rows) ≤ length out
 
 -- the triples and findings that are counted, and room for a line each and one for the counts
 pub record AnswerFits (store : List ℕ) (triples : ℕ) (findings : List ℕ) (records : ℕ) (out : List ℕ) : Type 0 where
-  pub stored : 3 * triples ≤ length store
-  pub found : 5 * records ≤ length findings
-  pub room : 33 + 33 * triples + 55 * records ≤ length out
+  pub stored : store-width * triples ≤ length store
+  pub found : finding-width * records ≤ length findings
+  pub room : three-width + number-width * (store-width * triples + finding-width * records) ≤ length out

@@ -6,6 +6,7 @@ use Prim.Native.Nat.{ℕ, suc}
 use lib.Dec.{leb, eqb}
 use Rattle.common.specs.Triples.{if}
 use Rattle.edge_decimal.specs.Decimal.{number}
+use Rattle.edge_closer_text.specs.Sizes.{count-limit, id-limit, last-line}
 
 -- the bytes before the first e, or all where there is none
 unfoldable pub before : ℕ → List ℕ → List ℕ
@@ -35,9 +36,9 @@ abbrev pub on : {A B : Type 0} → Option A → (A → B) → (Unit {0} → B) �
 on (some a) f g = f a
 on none f g = g tt
 
--- an id: at most 4294967295
+-- an id
 abbrev pub id : List ℕ → Option ℕ
-id = number 4294967295
+id = number id-limit
 
 -- three fields, and each of them an id
 abbrev pub three-ids : List (List ℕ) → Option (List ℕ)
@@ -51,9 +52,9 @@ three-ids (a ∷ b ∷ c ∷ d ∷ fs) = none
 unfoldable pub id-line : List ℕ → Option (List ℕ)
 id-line l = three-ids (fields l)
 
--- the count N, 0 to 500
+-- the count N
 abbrev pub count-line : List ℕ → Option ℕ
-count-line = number 500
+count-line = number count-limit
 
 -- what the lines before the first bad one say: the count, the ids, three a line; and the number of that line, if there is one
 pub record Reading : Type 0 where
@@ -65,11 +66,12 @@ pub record Reading : Type 0 where
 abbrev pub reading : ℕ → List ℕ → Option ℕ → Reading
 reading n is k = record { count = n; ids = is; bad = k }
 
--- the lines from line k on, after the count n and lines of the ids `is`; at most 1,000 such lines, so the last is line 1,001
+-- the lines from line k on, after the count n and lines of the ids `is`
 unfoldable pub id-lines : ℕ → ℕ → List ℕ → List (List ℕ) → Reading
 id-lines n k is [] = reading n is none
 id-lines n k is (l ∷ ls) =
-    if (leb k 1001) (λ _. on (id-line l) (λ t. id-lines n (suc k) (is ++ t) ls) (λ _. reading n is (some k))) (λ _. reading n is (some k))
+    if (leb k last-line) (λ _. on (id-line l) (λ t. id-lines n (suc k) (is ++ t) ls) (λ _. reading n is (some k)))
+    (λ _. reading n is (some k))
 
 -- the count is missing: a text of no lines has no line 1, which is bad
 abbrev pub read-lines : List (List ℕ) → Reading

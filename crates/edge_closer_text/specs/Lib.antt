@@ -1,3 +1,4 @@
+pub mod Sizes
 pub mod Input
 pub mod Output
 pub mod Contracts

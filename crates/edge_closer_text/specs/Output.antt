@@ -3,6 +3,7 @@
 use mathlib.Core.List.{List, [], _∷_, _++_}
 use Prim.Native.Nat.{ℕ, zero, suc}
 use lib.ListN.{length, take, drop}
+use Rattle.common.specs.Sizes.{store-width, finding-width}
 use Rattle.common.specs.Text.{text}
 use Rattle.common.specs.Triples.{Triple, Finding, concat-map}
 use Rattle.edge_decimal.specs.Decimal.{digits}
@@ -25,12 +26,13 @@ table w (suc k) ns = line (take w ns) ++ table w k (drop w ns)
 -- what an accepted run prints, of its triples and findings
 abbrev pub printed : List Triple → List Finding → List ℕ
 printed ts fs =
-    line (0 ∷ length ts ∷ length fs ∷ []) ++ (concat-map ts (λ t. line (t .s ∷ t .p ∷ t .o ∷ [])) ++ concat-map fs
-    (λ x. line (x .check ∷ x .a ∷ x .b ∷ x .c ∷ x .d ∷ [])))
+    line (0 ∷ length ts ∷ length fs ∷ [])
+    ++ (concat-map ts (λ t. line (t .s ∷ t .p ∷ t .o ∷ [])) ++ concat-map fs (λ x. line (x .check ∷ x .a ∷ x .b ∷ x .c ∷ x .d ∷ [])))
 
--- the same, of a store and findings that hold so many rows; proofs/Writing.antt shows that it is (answer-printed)
+-- the same, of a store and findings that hold so many rows; proofs/Printing.antt shows that it is (answer-printed)
 abbrev pub answer : List ℕ → ℕ → List ℕ → ℕ → List ℕ
-answer store triples findings records = line (0 ∷ triples ∷ records ∷ []) ++ (table 3 triples store ++ table 5 records findings)
+answer store triples findings records =
+    line (0 ∷ triples ∷ records ∷ []) ++ (table store-width triples store ++ table finding-width records findings)
 
 -- a refused run
 abbrev pub refusal : ℕ → List ℕ

@@ -1,19 +1,34 @@
 // The output: lines of decimal numbers, one space between.
+use common::FINDING_WIDTH;
+use common::STORE_WIDTH;
 use edge_decimal::put_number;
 ghost use mathlib.Core.Path.{_≡_};
 ghost use Prim.Native.Nat.{_+_, _*_, _≤_};
 ghost use lib.ListN.{length};
+ghost use Rattle.edge_closer_text.specs.Sizes.{number-width, three-width, bad-line-width, name-width};
 ghost use Rattle.edge_closer_text.specs.Output.{ending as Output·ending, line, table, answer, refusal, bad-line-text, name};
 ghost use Rattle.edge_decimal.specs.Contracts.{Wrote};
 ghost use Rattle.edge_closer_text.specs.Contracts.{TableFits, AnswerFits};
 
-// How many numbers the program's store of 2,000 triples and its findings of 400 records hold.
-pub const STORE: usize = 3 * 2000;
+// The most triples of the program's store and records of its findings, and how many numbers these are.
+const TRIPLE_LIMIT: usize = 2000;
 
-pub const FINDINGS: usize = 5 * 400;
+const RECORD_LIMIT: usize = 400;
 
-// Room to print all of them: ten digits and one byte more for a number, and a line of three for the counts.
-pub const OUTPUT: usize = 33 + 11 * (STORE + FINDINGS);
+pub const STORE: usize = STORE_WIDTH * TRIPLE_LIMIT;
+
+pub const FINDINGS: usize = FINDING_WIDTH * RECORD_LIMIT;
+
+// The most bytes of a number in print, ten digits, with the byte after it; and of a line of three.
+pub const NUMBER_WIDTH: usize = 11;
+
+pub const THREE_WIDTH: usize = 3 * NUMBER_WIDTH;
+
+// Room to print store and findings, after a line of the counts.
+pub const OUTPUT: usize = THREE_WIDTH + NUMBER_WIDTH * (STORE + FINDINGS);
+
+// The most bytes of a name.
+pub const NAME: usize = 15;
 
 // Writes the bytes from place `at` on, and answers the place after them.
 pub fn put_bytes(bytes: &[u8], out: &mut [u8], at: usize) -> usize
@@ -37,7 +52,7 @@ pub fn ending(others: usize) -> u8
 
 // Writes a line of the numbers.
 pub fn put_line(numbers: &[u32], out: &mut [u8], at: usize) -> usize
-    requires { ⌜ at + 11 * length (now numbers) ≤ length (now out) ⌝ }
+    requires { ⌜ at + number-width * length (now numbers) ≤ length (now out) ⌝ }
     ensures { λ r. ⌜ Wrote (now (out .entry)) at (line (now (numbers .entry))) (now (out .exit)) r ⌝ }
 {
     let mut to = at;
@@ -77,17 +92,18 @@ pub fn print_answer(
     out: &mut [u8],
 ) -> usize
     requires { ⌜ AnswerFits (now store) triples (now findings) records (now out) ⌝ }
-    ensures { λ r. ⌜ Wrote (now (out .entry)) 0 (answer (now (store .entry)) triples (now (findings .entry)) records) (now (out .exit)) r ⌝ }
+    ensures { λ r. ⌜ Wrote (now (out .entry)) 0
+        (answer (now (store .entry)) triples (now (findings .entry)) records) (now (out .exit)) r ⌝ }
 {
     let head = [0u32, triples, records];
     let first = put_line(&head, &mut *out, 0);
-    let next = put_table(store, 3, triples as usize, &mut *out, first);
-    put_table(findings, 5, records as usize, &mut *out, next)
+    let next = put_table(store, STORE_WIDTH, triples as usize, &mut *out, first);
+    put_table(findings, FINDING_WIDTH, records as usize, &mut *out, next)
 }
 
 // A refused run: its number and two zeros.
 pub fn print_refusal(number: u32, out: &mut [u8]) -> usize
-    requires { ⌜ 33 ≤ length (now out) ⌝ }
+    requires { ⌜ three-width ≤ length (now out) ⌝ }
     ensures { λ r. ⌜ Wrote (now (out .entry)) 0 (refusal number) (now (out .exit)) r ⌝ }
 {
     let head = [number, 0, 0];
@@ -96,7 +112,7 @@ pub fn print_refusal(number: u32, out: &mut [u8]) -> usize
 
 // The first bad line.
 pub fn print_bad_line(number: u32, out: &mut [u8]) -> usize
-    requires { ⌜ 20 ≤ length (now out) ⌝ }
+    requires { ⌜ bad-line-width ≤ length (now out) ⌝ }
     ensures { λ r. ⌜ Wrote (now (out .entry)) 0 (bad-line-text number) (now (out .exit)) r ⌝ }
 {
     let start = put_bytes(b"bad line ", &mut *out, 0);
@@ -107,7 +123,7 @@ pub fn print_bad_line(number: u32, out: &mut [u8]) -> usize
 
 // The bytes of the n-th named node that the program puts.
 pub fn print_name(n: u32, out: &mut [u8]) -> usize
-    requires { ⌜ 15 ≤ length (now out) ⌝ }
+    requires { ⌜ name-width ≤ length (now out) ⌝ }
     ensures { λ r. ⌜ Wrote (now (out .entry)) 0 (name n) (now (out .exit)) r ⌝ }
 {
     let start = put_bytes(b"urn:t", &mut *out, 0);

@@ -1,84 +1,18 @@
--- The two definitions of decimal numbers agree: `number` reads exactly what `digits` writes; how many digits a number has; and the steps
--- of the loop that reads one. Assumes nothing.
+-- The two definitions of decimal numbers agree: `number` reads exactly what `digits` writes. Assumes nothing.
 use mathlib.Core.Path.{_≡_, refl, sym, ap, _∙_}
 use mathlib.Core.Logic.{_⊎_, inl, inr}
-use mathlib.Core.Bool.{Bool, true, false, _&&_, true≢false}
+use mathlib.Core.Bool.{true, false, _&&_, true≢false}
 use mathlib.Core.Option.{some, none}
 use mathlib.Core.List.{List, [], _∷_, _++_, append-assoc, append-nil}
-use Prim.Native.Nat.{ℕ, zero, suc, _+_, _-_, _*_, _/_, _%_, _^_, _≤_, _<_}
-use native.Mathlib.Nat.{pow-suc, zero-add}
-use native.Mathlib.Numerals.{add-one}
+use Prim.Native.Nat.{ℕ, _+_, _-_, _*_, _/_, _%_, _≤_, _<_}
+use native.Mathlib.Nat.{zero-add}
 use native.Mathlib.Omega.{arith}
 use lib.Dec.{leb, ltb, eqb}
-use lib.ListN.{length, getD, drop, length-append, drop-of-length-le, List·getD-append}
-use lib.Seq.{drop-cons}
-use borrow.Author.Tests.{ltb-true, ltb-false, leb-true, leb-false, eqb-false, lt-ltb, le-ltb, le-leb, lt-leb, eq-eqb, ne-eqb}
-use Rattle.common.specs.Triples.{if}
+use lib.ListN.{length, getD, List·getD-append}
+use borrow.Author.Tests.{ltb-true, ltb-false, leb-true, leb-false, eqb-false, le-leb, lt-leb, eq-eqb, ne-eqb}
 use Rattle.common.specs.Digits.{is-digit, all-digits, value}
-use Rattle.edge_decimal.specs.Decimal.{no-leading-zero, number, digits-within, digits}
-
--- a test is one or the other
-pub either : (b : Bool) → (b ≡ true) ⊎ (b ≡ false)
-either true = inl refl
-either false = inr refl
-
--- DIGITS, by their recursion. More digits than n suffice.
-enough : (k m n : ℕ) → n < k → n < m → digits-within k n ≡ digits-within m n
-unfolding digits-within
-enough zero m n h i = absurd (omega arith)
-enough (suc k) zero n h i = absurd (omega arith)
-enough (suc k) (suc m) n h i = go (λ a b. enough k m (n / 10) a b) (either (ltb n 10))
-  where
-    go : (n / 10 < k → n / 10 < m → digits-within k (n / 10) ≡ digits-within m (n / 10))
-        → (ltb n 10 ≡ true) ⊎ (ltb n 10 ≡ false) → digits-within (suc k) n ≡ digits-within (suc m) n
-    go f (inl e) = rw e refl
-    go f (inr e) =
-        let more = ltb-false n 10 e in
-        rw e (ap (λ ds. ds ++ ((48 + n % 10) ∷ [])) (f (omega arith) (omega arith)))
-
--- one digit,
-pub digits-one : (n : ℕ) → n < 10 → digits n ≡ (48 + n) ∷ []
-unfolding digits digits-within
-digits-one n h = rw (lt-ltb n 10 h) refl
-
--- and one digit after the others
-pub digits-more : (n : ℕ) → 10 ≤ n → digits n ≡ digits (n / 10) ++ ((48 + n % 10) ∷ [])
-unfolding digits digits-within
-digits-more n h = rw (le-ltb n 10 h) (ap (λ ds. ds ++ ((48 + n % 10) ∷ [])) (enough n (suc (n / 10)) (n / 10) (omega arith) (omega arith)))
-
--- the same, from the front: one digit more
-pub digits-next : (v d : ℕ) → 0 < v → d < 10 → digits (10 * v + d) ≡ digits v ++ ((48 + d) ∷ [])
-digits-next v d h i =
-    let q : (10 * v + d) / 10 ≡ v = omega arith in
-    let r : (10 * v + d) % 10 ≡ d = omega arith in
-    digits-more (10 * v + d) (omega arith) ∙ rw (q, r) refl
-
--- what holds of one digit and of one digit more holds of the digits of every number
-by-digits : (P : ℕ → List ℕ → Type 0) → ((n : ℕ) → n < 10 → P n ((48 + n) ∷ []))
-    → ((n : ℕ) → 10 ≤ n → P (n / 10) (digits (n / 10)) → P n (digits (n / 10) ++ ((48 + n % 10) ∷ []))) → (n : ℕ) → P n (digits n)
-by-digits P one more n = go (suc n) n (omega arith)
-  where
-    step : (k m : ℕ) → ((i : ℕ) → i < k → P i (digits i)) → m < suc k → (ltb m 10 ≡ true) ⊎ (ltb m 10 ≡ false) → P m (digits m)
-    step k m ih h (inl e) = let l = ltb-true m 10 e in rw (digits-one m l) (one m l)
-    step k m ih h (inr e) = let l = ltb-false m 10 e in rw (digits-more m l) (more m l (ih (m / 10) (omega arith)))
-
-    go : (k m : ℕ) → m < k → P m (digits m)
-    go zero m h = absurd (omega arith)
-    go (suc k) m h = step k m (λ i l. go k i l) h (either (ltb m 10))
-
--- a number below 10 ^ k has at most k digits, and at least one
-pub few-digits : (k n : ℕ) → n < 10 ^ suc k → length (digits n) ≤ suc k
-few-digits zero n h = rw (digits-one n h) (omega arith)
-few-digits (suc k) n h = go (either (ltb n 10)) (λ i. few-digits k (n / 10) i)
-  where
-    go : (ltb n 10 ≡ true) ⊎ (ltb n 10 ≡ false) → (n / 10 < 10 ^ suc k → length (digits (n / 10)) ≤ suc k) → length (digits n) ≤ suc (suc k)
-    go (inl e) ih = rw (digits-one n (ltb-true n 10 e)) (omega arith)
-    go (inr e) ih =
-        rw (digits-more n (ltb-false n 10 e)) (simp length-append (let w = pow-suc 10 (suc k) in omega (arith, ih (omega arith))))
-
--- every number has a digit
-pub some-digits : (n : ℕ) → 0 < length (digits n)
-some-digits = by-digits (λ n ds. 0 < length ds) (λ n h. omega arith) (λ n h i. simp length-append (omega arith))
+use Rattle.edge_decimal.specs.Decimal.{no-leading-zero, number, digits}
+use Rattle.edge_decimal.proofs.Digits.{either, digits-one, digits-next, by-digits, some-digits}
 
 -- DIGITS READ one after the other
 all-append : (xs ys : List ℕ) → all-digits (xs ++ ys) ≡ all-digits xs && all-digits ys
@@ -98,7 +32,7 @@ value-append v [] ys = refl
 value-append v (b ∷ xs) ys = value-append (10 * v + (b - 48)) xs ys
 
 -- digits read later only add to the value
-value-grows : (v : ℕ) (bs : List ℕ) → v ≤ value v bs
+pub value-grows : (v : ℕ) (bs : List ℕ) → v ≤ value v bs
 unfolding value
 value-grows v [] = omega arith
 value-grows v (b ∷ bs) = let g = value-grows (10 * v + (b - 48)) bs in omega arith
@@ -276,56 +210,3 @@ digits-number most (b ∷ bs) n e = go (either (is-digit b)) (numeral most (b �
     go (inl f) m =
         sym (digits-led-by b bs (m .led) f (rw f at (m .all)))
         ∙ ap digits (ap (λ v. value v bs) (sym (zero-add (b - 48))) ∙ m .is)
-
--- THE LOOP that reads a number: what is left gives the same as the whole
-pub record Counted (bs : List ℕ) (most i v : ℕ) : Type 0 where
-  pub upto : i ≤ length bs
-  pub all : all-digits bs ≡ all-digits (drop i bs)
-  pub is : value 0 bs ≡ value v (drop i bs)
-  pub small : v ≤ most
-
--- no digit was read
-pub counted-start : (bs : List ℕ) (most : ℕ) → Counted bs most 0 0
-counted-start bs most = record { upto = omega arith; all = refl; is = refl; small = omega arith }
-
-module _ {bs : List ℕ} {most i v : ℕ} (c : Counted bs most i v) (h : i < length bs) where
-  -- the digit at i, and what is left after it
-  next-all : all-digits bs ≡ if (is-digit (getD bs i 0)) (λ _. all-digits (drop (suc i) bs)) (λ _. false)
-  unfolding all-digits
-  next-all = c .all ∙ rw (drop-cons bs i 0 h) refl
-
-  -- its value
-  next-value : value 0 bs ≡ value (10 * v + (getD bs i 0 - 48)) (drop (suc i) bs)
-  unfolding value
-  next-value = c .is ∙ rw (drop-cons bs i 0 h) refl
-
-  -- a byte that is no digit
-  pub counted-low : getD bs i 0 < 48 → number most bs ≡ none
-  counted-low l = no-digit most bs (next-all ∙ rw (lt-leb 48 (getD bs i 0) l) refl)
-
-  -- nor a byte above the digits
-  pub counted-high : 48 ≤ getD bs i 0 → 57 < getD bs i 0 → number most bs ≡ none
-  counted-high l r = no-digit most bs (next-all ∙ rw (le-leb 48 (getD bs i 0) l, lt-leb (getD bs i 0) 57 r) refl)
-
-  -- a value over the limit only grows
-  pub counted-over : most < 10 * v + (getD bs i 0 - 48) → number most bs ≡ none
-  counted-over l =
-      let g = value-grows (10 * v + (getD bs i 0 - 48)) (drop (suc i) bs) in let e = next-value in too-large most bs (omega arith)
-
-  -- one digit more
-  pub counted-step : 48 ≤ getD bs i 0 → getD bs i 0 ≤ 57 → 10 * v + (getD bs i 0 - 48) ≤ most
-      → Counted bs most (i + 1) (10 * v + (getD bs i 0 - 48))
-  counted-step l r s = rw add-one (record {
-    upto = h;
-    all = next-all ∙ rw (le-leb 48 (getD bs i 0) l, le-leb (getD bs i 0) 57 r) refl;
-    is = next-value;
-    small = s;
-  })
-
--- no byte is left
-pub counted-end : {bs : List ℕ} {most i v : ℕ} → Counted bs most i v → length bs ≤ i → no-leading-zero bs ≡ true → number most bs ≡ some v
-unfolding all-digits value
-counted-end {bs} {most} {i} {v} c h z =
-    let d : drop i bs ≡ [] = drop-of-length-le bs h in
-    let w : value 0 bs ≡ v = c .is ∙ rw d refl in
-    number-some most bs z (c .all ∙ rw d refl) (let s = c .small in omega arith) ∙ ap some w

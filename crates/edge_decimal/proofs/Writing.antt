@@ -8,7 +8,7 @@ use lib.ListN.{length, take, drop, set, length-append, length-set}
 use lib.Seq.{sets, sets-eq, length-sets, length-take-le, take-at}
 use Rattle.edge_decimal.specs.Decimal.{digits}
 use Rattle.edge_decimal.specs.Contracts.{Wrote}
-use Rattle.edge_decimal.proofs.Numerals.{digits-one, digits-more, few-digits}
+use Rattle.edge_decimal.proofs.Digits.{digits-one, digits-more, few-digits}
 
 -- PIECES
 pub sets-append : (l : List ℕ) (i : ℕ) (xs ys : List ℕ) → sets l i (xs ++ ys) ≡ sets (sets l i xs) (i + length xs) ys

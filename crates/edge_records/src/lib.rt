@@ -1,11 +1,13 @@
-// Findings as records: a lent slice of finding structs, filled from the five-number form that a run leaves.
+// Findings as records: a lent slice of structs, filled from the five-number form that a run leaves.
+use common::FINDING_WIDTH;
 ghost use mathlib.Core.Path.{_≡_};
 ghost use Prim.Native.Nat.{_+_, _*_, _≤_};
 ghost use lib.ListN.{length};
+ghost use Rattle.common.specs.Sizes.{finding-width};
 ghost use Rattle.edge_records.specs.Records.{five-at, plan-for, records-result, records-give};
 
 // A finding: the check's number, then the four numbers of REFERENCE 7.1.
-pub struct Finding {
+pub struct FindingRecord {
     pub check: u32,
     pub a: u32,
     pub b: u32,
@@ -20,16 +22,17 @@ pub struct Plan {
 }
 
 // The record of the five numbers at a place.
-pub fn record_at(numbers: &[u32], i: usize) -> Finding
-    requires { ⌜ 5 * i + 5 ≤ length (now numbers) ⌝ }
+pub fn record_at(numbers: &[u32], i: usize) -> FindingRecord
+    requires { ⌜ finding-width * i + finding-width ≤ length (now numbers) ⌝ }
     ensures { λ r. ⌜ r ≡ five-at (now (numbers .entry)) i ⌝ }
 {
-    Finding {
-        check: numbers[5 * i],
-        a: numbers[5 * i + 1],
-        b: numbers[5 * i + 2],
-        c: numbers[5 * i + 3],
-        d: numbers[5 * i + 4],
+    let at = FINDING_WIDTH * i;
+    FindingRecord {
+        check: numbers[at],
+        a: numbers[at + 1],
+        b: numbers[at + 2],
+        c: numbers[at + 3],
+        d: numbers[at + 4],
     }
 }
 
@@ -37,8 +40,8 @@ pub fn record_at(numbers: &[u32], i: usize) -> Finding
 pub fn plan_of(numbers: usize, records: usize) -> Plan
     ensures { λ r. ⌜ r ≡ plan-for numbers records ⌝ }
 {
-    if numbers / 5 == records {
-        if numbers % 5 == 0 {
+    if numbers / FINDING_WIDTH == records {
+        if numbers % FINDING_WIDTH == 0 {
             return Plan {
                 number: 0,
                 count: records,
@@ -52,7 +55,7 @@ pub fn plan_of(numbers: usize, records: usize) -> Plan
 }
 
 // Fills the records from the numbers, or refuses with 4 and changes nothing.
-pub fn findings_as_records(numbers: &[u32], records: &mut [Finding]) -> u32
+pub fn findings_as_records(numbers: &[u32], records: &mut [FindingRecord]) -> u32
     ensures { λ r. ⌜ records-result r (now (records .exit)) ≡ records-give (now (numbers .entry)) (now (records .entry)) ⌝ }
 {
     let plan = plan_of(numbers.len(), records.len());

@@ -7,6 +7,7 @@ use Prim.Native.Nat.{ℕ, _+_, _*_, _≤_, _<_}
 use native.Mathlib.Omega.{arith}
 use lib.ListN.{length, getD, set, length-set}
 use lib.Seq.{getD-set-same, getD-set-other}
+use Rattle.common.specs.Sizes.{finding-limit}
 use Rattle.common.specs.Triples.{Finding, In, here, there, Distinct}
 use Rattle.meaning.specs.Closure.{five-counts}
 use Rattle.common.proofs.Lists.{in-nil, in-cons, in-left, in-right, in-cases}
@@ -83,7 +84,7 @@ module _ (f : List ℕ) (j : ℕ) (x : Finding) where
       (listed-ext j (findingAt (set-finding f j x)) (findingAt f) put-before) (put-is h)
 
 -- a count can be raised
-pub count-few : {f : List ℕ} {a : Checked} → Ready f a → (i : ℕ) → getD (a .counts) i 0 < 65536
+pub count-few : {f : List ℕ} {a : Checked} → Ready f a → (i : ℕ) → getD (a .counts) i 0 ≤ finding-limit
 count-few {f} {a} r i =
     omega (arith, ap (λ c. getD c i 0) (r .counts), five-le i (finding-rows (a .n) f), length-listed (a .n) (findingAt f), r .room, r .few)
 

@@ -9,7 +9,8 @@ use lib.Dec.{eqb}
 use lib.ListN.{length, getD}
 use Rattle.common.specs.Triples.{Finding, In, here, there, if, lex, key-finding, Distinct, place, insert, insert-all}
 use Rattle.meaning.specs.Closure.{count-of, five-counts}
-use Rattle.common.proofs.Order.{finding-tells, lex-eq, in-insert→}
+use Rattle.common.proofs.Lex.{lex-eq}
+use Rattle.common.proofs.Order.{finding-tells, in-insert→}
 use Rattle.engine_checks.specs.Findings.{raised}
 
 -- whether a record is counted

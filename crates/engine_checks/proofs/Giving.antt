@@ -3,22 +3,21 @@ use mathlib.Core.Path.{_≡_, refl, sym, ap, subst, _∙_}
 use mathlib.Core.Logic.{_⊎_, inl, inr, _≢_}
 use mathlib.Core.Bool.{true, false}
 use mathlib.Core.List.{List}
-use Prim.Native.Nat.{ℕ, _+_, _≤_, _<_}
+use Prim.Native.Nat.{ℕ, _≤_, _<_}
 use native.Mathlib.Omega.{arith}
-use lib.ListN.{getD}
 use Rattle.common.specs.Triples.{Triple, Finding}
-use Rattle.store_rows.specs.Rows.{rowAt, Apart}
-use Rattle.store_rows.specs.Chains.{keys, Last, Chain}
+use Rattle.store_rows.specs.Rows.{rowAt, Apart, row-graph}
+use Rattle.common.specs.Last.{Last}
 use Rattle.store_rows.specs.Store.{Good}
 use Rattle.store_rows.proofs.Cases.{true-false, three}
-use Rattle.store_rows.proofs.Chain.{last-is}
 use Rattle.engine_checks.specs.declared.CheckKind.{CheckKind}
 use Rattle.engine_checks.specs.declared.CheckKind.the-variants.{NoCheck}
 use Rattle.engine_checks.specs.declared.Checked.{Checked}
-use Rattle.engine_checks.specs.Pairs.{row-graph, Axiom, check-of, KindOf, is-check, Violates, finding-by, key-by, Gives, GivesWith}
+use Rattle.engine_checks.specs.Pairs.{Axiom, check-of, KindOf, is-check, Violates, finding-by, key-by, Gives, GivesWith}
 use Rattle.engine_checks.specs.Pairs.{GivenByRow, GivenByRows}
 use Rattle.engine_checks.specs.Findings.{Appended}
-use Rattle.engine_checks.proofs.Pairing.{axiom-kind, axiom-check, no-check, violates-key, finding-check, same-axiom, same-assertion}
+use Rattle.engine_checks.proofs.Pairing.{axiom-kind, axiom-check, no-check, violates-key, finding-check, same-axiom}
+use Rattle.engine_checks.proofs.Pairing.{same-assertion}
 use Rattle.engine_checks.proofs.Appending.{appended-iff}
 use Rattle.engine_checks.proofs.Scanning.{Since, Once}
 
@@ -30,15 +29,6 @@ same-row l n a i j p q e = go (three i j)
     go (inl h) = h
     go (inr (inl h)) = absurd (a i j h q e)
     go (inr (inr h)) = absurd (a j i h p (sym e))
-
--- where the chain of a key begins, and how it goes on
-pub chain-head : {key : ℕ → ℕ} {m : ℕ} {ix : List ℕ} {b : ℕ} → Chain key m ix b → (x v : ℕ) → x < keys → v ≡ getD ix (b + x) 0
-    → Last key x m v
-chain-head {key} c x v h e = last-is key e (c .heads x h)
-
-pub chain-link : {key : ℕ → ℕ} {m : ℕ} {ix : List ℕ} {b : ℕ} → Chain key m ix b → (j v : ℕ) → j < m
-    → v ≡ getD ix (b + keys + j) 0 → Last key (key j) j v
-chain-link {key} c j v h e = last-is key e (c .links j h)
 
 -- all rows, from the last
 pub every-row : (m : ℕ) → Last (λ _. 0) 0 m m

@@ -1,4 +1,4 @@
-pub mod Answering
+pub mod Reflecting
 pub mod Pairing
 pub mod Counting
 pub mod Appending

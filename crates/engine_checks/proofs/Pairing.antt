@@ -10,14 +10,14 @@ use Rattle.common.specs.Triples.{Triple, triple, Finding, finding, In, if}
 use Rattle.common.specs.Vocabulary.{type, Nothing, IrreflexiveProperty, AsymmetricProperty, disjointWith, propertyDisjointWith}
 use Rattle.meaning.specs.Rules.{Graph, Found, cax-dw, prp-irp, prp-asyp, prp-pdw, cls-nothing2}
 use Rattle.meaning.specs.Table.{graph-of}
-use Rattle.store_rows.specs.Rows.{rowAt, rows, InRows}
+use Rattle.store_rows.specs.Rows.{rowAt, rows, InRows, row-graph}
 use Rattle.store_rows.specs.Chains.{block, Chain}
 use Rattle.store_rows.specs.Store.{Indexed}
 use Rattle.store_rows.proofs.Cases.{true-false}
 use Rattle.store_rows.proofs.Rows.{triple-eq, in-rows→, in-rows←}
 use Rattle.engine_checks.specs.declared.CheckKind.{CheckKind}
 use Rattle.engine_checks.specs.declared.CheckKind.the-variants.{NoCheck, CaxDw, PrpIrp, PrpAsyp, PrpPdw, ClsNothing2}
-use Rattle.engine_checks.specs.Pairs.{row-graph, Axiom, check-of, is-check, Violates, finding-by, block-by, key-by, Gives, GivesWith}
+use Rattle.engine_checks.specs.Pairs.{Axiom, check-of, is-check, Violates, finding-by, assertions-block, key-by, Gives, GivesWith}
 use Rattle.engine_checks.specs.Pairs.{GivenByRow, GivenByRows}
 
 -- an axiom is one of its check alone
@@ -50,7 +50,7 @@ violates-key PrpAsyp R t u v = v .property
 violates-key PrpPdw R t u v = v .property
 violates-key ClsNothing2 R t u v = v .instance
 
-pub block-bound : (k : CheckKind) (b : ℕ) → b ≡ block-by k → b ≤ 2 * block
+pub block-bound : (k : CheckKind) (b : ℕ) → b ≡ assertions-block k → b ≤ 2 * block
 block-bound NoCheck b e = omega arith
 block-bound CaxDw b e = omega arith
 block-bound PrpIrp b e = omega arith
@@ -58,7 +58,7 @@ block-bound PrpAsyp b e = omega arith
 block-bound PrpPdw b e = omega arith
 block-bound ClsNothing2 b e = omega arith
 
-chain-of : {l ix : List ℕ} {n : ℕ} → Indexed l n ix → (k : CheckKind) → Chain (λ j. key-by k (rowAt l j)) n ix (block-by k)
+chain-of : {l ix : List ℕ} {n : ℕ} → Indexed l n ix → (k : CheckKind) → Chain (λ j. key-by k (rowAt l j)) n ix (assertions-block k)
 chain-of i NoCheck = i .by-subject
 chain-of i CaxDw = i .by-object
 chain-of i PrpIrp = i .by-predicate
@@ -66,7 +66,7 @@ chain-of i PrpAsyp = i .by-predicate
 chain-of i PrpPdw = i .by-predicate
 chain-of i ClsNothing2 = i .by-subject
 
-pub chain-by : {l ix : List ℕ} {n : ℕ} → Indexed l n ix → (k : CheckKind) (b : ℕ) → b ≡ block-by k
+pub chain-by : {l ix : List ℕ} {n : ℕ} → Indexed l n ix → (k : CheckKind) (b : ℕ) → b ≡ assertions-block k
     → Chain (λ j. key-by k (rowAt l j)) n ix b
 chain-by {l} {ix} {n} i k b e = subst (λ (x : ℕ). Chain (λ j. key-by k (rowAt l j)) n ix x) (sym e) (chain-of i k)
 

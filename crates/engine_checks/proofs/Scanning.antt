@@ -7,7 +7,7 @@ use mathlib.Core.List.{List}
 use Prim.Native.Nat.{ℕ, _-_, _≤_, _<_}
 use native.Mathlib.Omega.{arith}
 use Rattle.common.specs.Triples.{Finding}
-use Rattle.store_rows.specs.Chains.{Last}
+use Rattle.common.specs.Last.{Last}
 use Rattle.store_rows.proofs.Cases.{is-or-not, le-or, true-false}
 use Rattle.engine_checks.specs.declared.Checked.{Checked}
 use Rattle.engine_checks.specs.Findings.{Ready, Appended}

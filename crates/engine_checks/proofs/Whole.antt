@@ -7,6 +7,7 @@ use mathlib.Core.List.{List, [], _∷_, _++_}
 use Prim.Native.Nat.{ℕ, suc, _-_, _*_, _/_, _≤_, _<_}
 use native.Mathlib.Omega.{arith}
 use lib.ListN.{length, replicate}
+use Rattle.common.specs.Sizes.{finding-width, finding-limit}
 use Rattle.common.specs.Triples.{Finding, In, key-finding, Ascending, Distinct, insert-all}
 use Rattle.meaning.specs.Closure.{findings, count-of, five-counts}
 use Rattle.common.specs.Rows.{flat-findings, filled}
@@ -26,7 +27,7 @@ use Rattle.engine_checks.proofs.Pairing.{found→given, given→found}
 use Rattle.engine_checks.proofs.Counting.{five-sorted}
 
 -- at the start
-pub ready-start : (f : List ℕ) → length f ≤ 5 * 65535 → Ready f nothing-yet
+pub ready-start : (f : List ℕ) → length f ≤ finding-width * finding-limit → Ready f nothing-yet
 unfolding count-of
 ready-start f h = record { room = omega arith; few = h; counts = ap five-counts (sym (listed-none (findingAt f))) }
 
@@ -66,7 +67,7 @@ module _ {l : List ℕ} {n : ℕ} {f f₁ : List ℕ} {r : Checked} (p : Appende
   new-length = ap length (sym new-is) ∙ length-listed (r .n) (findingAt f₁)
 
   -- one that does not fit: the findings are more than the records
-  too-many : r .full ≡ true → length f / 5 < length (findings (rows n l))
+  too-many : r .full ≡ true → length f / finding-width < length (findings (rows n l))
   too-many e =
       let o = p .over e in
       let xs : List Finding = o .what ∷ p .new in
@@ -83,7 +84,7 @@ module _ {l : List ℕ} {n : ℕ} {f f₁ : List ℕ} {r : Checked} (p : Appende
     same-length = p .same-length;
   }
 
-  module _ (e : r .full ≡ false) {f₂ f₃ : List ℕ} (s : Sorted 5 (r .n) f₁ f₂) (q : f₃ ≡ cleared (5 * r .n) f₂)
+  module _ (e : r .full ≡ false) {f₂ f₃ : List ℕ} (s : Sorted finding-width (r .n) f₁ f₂) (q : f₃ ≡ cleared (finding-width * r .n) f₂)
       (long : length f₃ ≡ length f) where
     the-findings : sorted (finding-rows (r .n) f₁) ≡ findings (rows n l)
     the-findings =

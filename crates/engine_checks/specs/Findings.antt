@@ -5,6 +5,7 @@ use mathlib.Core.Bool.{true, false}
 use mathlib.Core.List.{List, [], _∷_, _++_}
 use Prim.Native.Nat.{ℕ, _+_, _-_, _*_, _/_, _%_, _≤_, _<_}
 use lib.ListN.{length, getD, set}
+use Rattle.common.specs.Sizes.{finding-width, finding-limit}
 use Rattle.common.specs.Triples.{Finding, In, Distinct}
 use Rattle.meaning.specs.Closure.{findings, five-counts}
 use Rattle.common.specs.Rows.{flat-findings, filled}
@@ -15,7 +16,8 @@ use Rattle.engine_checks.specs.declared.Checked.{Checked}
 -- the buffer with x as its record j
 abbrev pub set-finding : List ℕ → ℕ → Finding → List ℕ
 set-finding f j x =
-    set (set (set (set (set f (5 * j) (x .check)) (5 * j + 1) (x .a)) (5 * j + 2) (x .b)) (5 * j + 3) (x .c)) (5 * j + 4) (x .d)
+    let at = finding-width * j in
+    set (set (set (set (set f at (x .check)) (at + 1) (x .a)) (at + 2) (x .b)) (at + 3) (x .c)) (at + 4) (x .d)
 
 -- one more of check k
 abbrev pub raised : List ℕ → ℕ → List ℕ
@@ -32,13 +34,13 @@ nothing-yet = record { n = 0; full = false; counts = 0 ∷ 0 ∷ 0 ∷ 0 ∷ 0 �
 
 -- a buffer that has its records and their counts
 pub record Ready (f : List ℕ) (a : Checked) : Type 0 where
-  pub room : 5 * a .n ≤ length f
-  pub few : length f ≤ 5 * 65535
+  pub room : finding-width * a .n ≤ length f
+  pub few : length f ≤ finding-width * finding-limit
   pub counts : a .counts ≡ five-counts (finding-rows (a .n) f)
 
 -- refusal 9, findings full: a record of C is not among those appended, and there is no room for it
 pub record Missing (C : Finding → Type 0) (f : List ℕ) (n : ℕ) (xs : List Finding) : Type 0 where
-  pub short : length f < 5 * n + 5
+  pub short : length f < finding-width * n + finding-width
   pub what : Finding
   pub wanted : C what
   pub absent : In what xs → ⊥
@@ -56,8 +58,8 @@ pub record Appended (C : Finding → Type 0) (f : List ℕ) (a : Checked) (f' : 
 
 -- a findings buffer: five numbers a record
 pub record Buffer (f : List ℕ) : Type 0 where
-  pub whole : length f % 5 ≡ 0
-  pub few : length f ≤ 5 * 65535
+  pub whole : length f % finding-width ≡ 0
+  pub few : length f ≤ finding-width * finding-limit
 
 -- the findings fit: their number and counts, and the buffer has them in order, then zeros
 pub record Fits (fs : List Finding) (f : List ℕ) (r : Checked) (f' : List ℕ) : Type 0 where
@@ -68,6 +70,6 @@ pub record Fits (fs : List Finding) (f : List ℕ) (r : Checked) (f' : List ℕ)
 
 -- THE CHECKS of the first n rows of l
 pub record Checks (l : List ℕ) (n : ℕ) (f : List ℕ) (r : Checked) (f' : List ℕ) : Type 0 where
-  pub fits : length (findings (rows n l)) ≤ length f / 5 → Fits (findings (rows n l)) f r f'
-  pub over : length f / 5 < length (findings (rows n l)) → r .full ≡ true
+  pub fits : length (findings (rows n l)) ≤ length f / finding-width → Fits (findings (rows n l)) f r f'
+  pub over : length f / finding-width < length (findings (rows n l)) → r .full ≡ true
   pub same-length : length f' ≡ length f

@@ -4,20 +4,16 @@ use mathlib.Core.Path.{_≡_}
 use mathlib.Core.Logic.{_≢_}
 use mathlib.Core.Bool.{Bool, true, false}
 use mathlib.Core.List.{List}
-use Prim.Native.Nat.{ℕ, _*_, _<_}
+use Prim.Native.Nat.{ℕ, _<_}
 use lib.Dec.{eqb}
-use Rattle.common.specs.Triples.{Triple, triple, Finding, finding, if}
+use Rattle.common.specs.Triples.{Triple, Finding, finding, if}
 use Rattle.common.specs.Vocabulary.{type, Nothing, IrreflexiveProperty, AsymmetricProperty, disjointWith, propertyDisjointWith}
 use Rattle.meaning.specs.Rules.{Graph}
-use Rattle.store_rows.specs.Rows.{rowAt, InRows}
-use Rattle.store_rows.specs.Chains.{block}
+use Rattle.store_rows.specs.Rows.{rowAt, row-graph}
+use Rattle.store_rows.specs.Layout.{subjects-at, predicates-at, objects-at}
 use Rattle.engine_checks.specs.declared.CheckKind.{CheckKind}
 use Rattle.engine_checks.specs.declared.CheckKind.the-variants.{NoCheck, CaxDw, PrpIrp, PrpAsyp, PrpPdw, ClsNothing2}
 use Rattle.engine_checks.specs.declared.Finding as declared
-
--- the triples of the first n rows
-abbrev pub row-graph : List ℕ → ℕ → Graph
-row-graph l n s p o = InRows l n (triple s p o)
 
 -- the finding that a value of the type Finding of src/ stands for
 abbrev pub finding-of : declared.Finding → Finding
@@ -112,13 +108,13 @@ finding-by PrpPdw t u = finding 4 (u .s) (u .o) (t .s) (t .o)
 finding-by ClsNothing2 t u = finding 5 (t .s) 0 0 0
 
 -- assertions that can violate t have t's subject as their object, predicate or subject: the block of the index with these chains
-abbrev pub block-by : CheckKind → ℕ
-block-by NoCheck = 0
-block-by CaxDw = 2 * block
-block-by PrpIrp = block
-block-by PrpAsyp = block
-block-by PrpPdw = block
-block-by ClsNothing2 = 0
+abbrev pub assertions-block : CheckKind → ℕ
+assertions-block NoCheck = subjects-at
+assertions-block CaxDw = objects-at
+assertions-block PrpIrp = predicates-at
+assertions-block PrpAsyp = predicates-at
+assertions-block PrpPdw = predicates-at
+assertions-block ClsNothing2 = subjects-at
 
 abbrev pub key-by : CheckKind → Triple → ℕ
 key-by NoCheck u = u .s
@@ -150,8 +146,3 @@ pub record GivenByRows (l : List ℕ) (n : ℕ) (x : Finding) : Type 0 where
   pub at : ℕ
   pub below : at < n
   pub gives : GivenByRow l n at x
-
--- the answer r tells whether P holds
-pub record Answers (P : Type 0) (r : Bool) : Type 0 where
-  pub yes : r ≡ true → P
-  pub no : r ≡ false → P → ⊥

@@ -1,28 +1,31 @@
 // The five checks over a closed store. Each row that is an axiom of a check is paired with the assertions that can violate it, which
 // are one chain of the index; a finding comes from one pair only, so no record is written twice.
+use common::FINDING_WIDTH;
 use common::Id;
 use common::Triple;
 use common::Vocab;
-use store_rows::chains::BLOCK;
+use store_rows::OBJECTS;
+use store_rows::PREDICATES;
+use store_rows::SUBJECTS;
 use store_rows::clear_from;
 use store_rows::contains;
 use store_rows::head;
 use store_rows::link;
 use store_rows::row;
+use store_rows::wide;
 use store_sort::sort_rows;
 ghost use mathlib.Core.Path.{_≡_};
 ghost use mathlib.Core.Bool.{true, false};
 ghost use Prim.Native.Nat.{ℕ, _+_, _-_, _*_, _≤_, _<_};
 ghost use lib.ListN.{length, getD};
+ghost use Rattle.common.specs.Sizes.{finding-width, finding-limit};
 ghost use Rattle.common.specs.Triples.{triple, finding};
 ghost use Rattle.common.specs.Values.{triple-of};
 ghost use Rattle.store_rows.specs.Store.{Good, Small, Indexed};
-ghost use Rattle.engine_checks.specs.Pairs.{row-graph, finding-of, KindOf, is-check, TypedByBoth, Reflexive, BothWays, RelatedByBoth};
-ghost use Rattle.engine_checks.specs.Pairs.{OfNothing, Violates, finding-by, block-by, key-by, GivesWith, GivenByRows, Answers};
+ghost use Rattle.store_rows.specs.Rows.{row-graph, Reflects};
+ghost use Rattle.engine_checks.specs.Pairs.{finding-of, KindOf, is-check, TypedByBoth, Reflexive, BothWays, RelatedByBoth};
+ghost use Rattle.engine_checks.specs.Pairs.{OfNothing, Violates, finding-by, assertions-block, key-by, GivesWith, GivenByRows};
 ghost use Rattle.engine_checks.specs.Findings.{set-finding, raised, Readable, nothing-yet, Ready, Appended, Buffer, Checks};
-
-// How many numbers a record has.
-pub const WIDTH: usize = 5;
 
 // A check by the W3C name of its rule.
 pub enum CheckKind {
@@ -48,12 +51,6 @@ pub struct Checked {
     pub n: usize,
     pub full: bool,
     pub counts: [u32; 5],
-}
-
-fn wide(x: u32) -> usize
-    ensures { λ r. ⌜ r ≡ x ⌝ }
-{
-    x as usize
 }
 
 // The check whose axiom t is.
@@ -95,16 +92,16 @@ fn is_check(k: CheckKind) -> bool
 }
 
 // The block of the index in whose chain of t's subject the assertions stand.
-fn block_by(k: CheckKind) -> usize
-    ensures { λ r. ⌜ r ≡ block-by k ⌝ }
+fn assertions_block(k: CheckKind) -> usize
+    ensures { λ r. ⌜ r ≡ assertions-block k ⌝ }
 {
     match k {
-        CheckKind::NoCheck => 0,
-        CheckKind::CaxDw => 2 * BLOCK,
-        CheckKind::PrpIrp => BLOCK,
-        CheckKind::PrpAsyp => BLOCK,
-        CheckKind::PrpPdw => BLOCK,
-        CheckKind::ClsNothing2 => 0,
+        CheckKind::NoCheck => SUBJECTS,
+        CheckKind::CaxDw => OBJECTS,
+        CheckKind::PrpIrp => PREDICATES,
+        CheckKind::PrpAsyp => PREDICATES,
+        CheckKind::PrpPdw => PREDICATES,
+        CheckKind::ClsNothing2 => SUBJECTS,
     }
 }
 
@@ -137,7 +134,7 @@ fn make_triple(s: Id, p: Id, o: Id) -> Triple
 // c disjointWith d, i type c: whether i is an instance of d too.
 fn cax_dw(store: &[u32], hash: &[u32], n: usize, t: Triple, u: Triple) -> bool
     requires { ⌜ Good (now store) (now hash) n × Small (triple-of t) × Small (triple-of u) × (u .o .0 ≡ t .s .0) ⌝ }
-    ensures { λ r. ⌜ Answers (TypedByBoth (row-graph (now (store .entry)) n) (triple-of t) (triple-of u)) r ⌝ }
+    ensures { λ r. ⌜ Reflects (TypedByBoth (row-graph (now (store .entry)) n) (triple-of t) (triple-of u)) r ⌝ }
 {
     if u.p.0 != Vocab::RDF_TYPE.0 {
         return false;
@@ -151,7 +148,7 @@ fn cax_dw(store: &[u32], hash: &[u32], n: usize, t: Triple, u: Triple) -> bool
 // p irreflexive: whether u is s p s.
 fn prp_irp(t: Triple, u: Triple) -> bool
     requires { ⌜ u .p .0 ≡ t .s .0 ⌝ }
-    ensures { λ r. ⌜ Answers (Reflexive (triple-of t) (triple-of u)) r ⌝ }
+    ensures { λ r. ⌜ Reflects (Reflexive (triple-of t) (triple-of u)) r ⌝ }
 {
     if u.s.0 != u.o.0 {
         return false;
@@ -162,7 +159,7 @@ fn prp_irp(t: Triple, u: Triple) -> bool
 // p asymmetric, a p b: whether there is b p a.
 fn prp_asyp(store: &[u32], hash: &[u32], n: usize, t: Triple, u: Triple) -> bool
     requires { ⌜ Good (now store) (now hash) n × Small (triple-of t) × Small (triple-of u) × (u .p .0 ≡ t .s .0) ⌝ }
-    ensures { λ r. ⌜ Answers (BothWays (row-graph (now (store .entry)) n) (triple-of t) (triple-of u)) r ⌝ }
+    ensures { λ r. ⌜ Reflects (BothWays (row-graph (now (store .entry)) n) (triple-of t) (triple-of u)) r ⌝ }
 {
     if t.s.0 == 0 {
         return false;
@@ -179,7 +176,7 @@ fn prp_asyp(store: &[u32], hash: &[u32], n: usize, t: Triple, u: Triple) -> bool
 // p propertyDisjointWith q, a p b: whether there is a q b.
 fn prp_pdw(store: &[u32], hash: &[u32], n: usize, t: Triple, u: Triple) -> bool
     requires { ⌜ Good (now store) (now hash) n × Small (triple-of t) × Small (triple-of u) × (u .p .0 ≡ t .s .0) ⌝ }
-    ensures { λ r. ⌜ Answers (RelatedByBoth (row-graph (now (store .entry)) n) (triple-of t) (triple-of u)) r ⌝ }
+    ensures { λ r. ⌜ Reflects (RelatedByBoth (row-graph (now (store .entry)) n) (triple-of t) (triple-of u)) r ⌝ }
 {
     if u.s.0 == 0 {
         return false;
@@ -199,7 +196,7 @@ fn prp_pdw(store: &[u32], hash: &[u32], n: usize, t: Triple, u: Triple) -> bool
 // i type Nothing: u is that row itself.
 fn cls_nothing2(t: Triple, u: Triple) -> bool
     requires { ⌜ u .s .0 ≡ t .s .0 ⌝ }
-    ensures { λ r. ⌜ Answers (OfNothing (triple-of t) (triple-of u)) r ⌝ }
+    ensures { λ r. ⌜ Reflects (OfNothing (triple-of t) (triple-of u)) r ⌝ }
 {
     if u.p.0 != Vocab::RDF_TYPE.0 {
         return false;
@@ -213,7 +210,7 @@ fn cls_nothing2(t: Triple, u: Triple) -> bool
 // Whether u violates the axiom t.
 fn violates(store: &[u32], hash: &[u32], n: usize, k: CheckKind, t: Triple, u: Triple) -> bool
     requires { ⌜ Good (now store) (now hash) n × Small (triple-of t) × Small (triple-of u) × (key-by k (triple-of u) ≡ t .s .0) ⌝ }
-    ensures { λ r. ⌜ Answers (Violates k (row-graph (now (store .entry)) n) (triple-of t) (triple-of u)) r ⌝ }
+    ensures { λ r. ⌜ Reflects (Violates k (row-graph (now (store .entry)) n) (triple-of t) (triple-of u)) r ⌝ }
 {
     match k {
         CheckKind::NoCheck => false,
@@ -227,10 +224,10 @@ fn violates(store: &[u32], hash: &[u32], n: usize, k: CheckKind, t: Triple, u: T
 
 // The buffer with x as its record j.
 fn put_finding(findings: &mut [u32], j: usize, x: Finding)
-    requires { ⌜ 5 * j + 5 ≤ length (now findings) ⌝ }
+    requires { ⌜ finding-width * j + finding-width ≤ length (now findings) ⌝ }
     ensures { λ _. ⌜ now (findings .exit) ≡ set-finding (now (findings .entry)) j (finding-of x) ⌝ }
 {
-    let at = WIDTH * j;
+    let at = FINDING_WIDTH * j;
     findings[at] = x.check;
     findings[at + 1] = x.a;
     findings[at + 2] = x.b;
@@ -240,7 +237,7 @@ fn put_finding(findings: &mut [u32], j: usize, x: Finding)
 
 // One more of check k.
 fn raise(counts: [u32; 5], k: u32) -> [u32; 5]
-    requires { ⌜ (1 ≤ k) × (k ≤ 5) × ((i : ℕ) → getD counts i 0 < 65536) ⌝ }
+    requires { ⌜ (1 ≤ k) × (k ≤ 5) × ((i : ℕ) → getD counts i 0 ≤ finding-limit) ⌝ }
     ensures { λ r. ⌜ r ≡ raised counts k ⌝ }
 {
     let mut next = counts;
@@ -256,7 +253,7 @@ fn append(findings: &mut [u32], done: Checked, x: Finding) -> Checked
 {
     let n = done.n;
     let counts = done.counts;
-    if findings.len() < WIDTH * n + WIDTH {
+    if findings.len() < FINDING_WIDTH * n + FINDING_WIDTH {
         return Checked {
             n,
             full: true,
@@ -283,10 +280,11 @@ fn check_row(
     k: CheckKind,
     t: Triple,
 ) -> Checked
-    requires { ⌜ Readable (now store) (now hash) (now ix) n × Ready (now findings) before × (before .full ≡ false) × Small (triple-of t) × (is-check k ≡ true) ⌝ }
+    requires { ⌜ Readable (now store) (now hash) (now ix) n × Ready (now findings) before
+        × (before .full ≡ false) × Small (triple-of t) × (is-check k ≡ true) ⌝ }
     ensures { λ r. ⌜ Appended (GivesWith k (now (store .entry)) n (triple-of t)) (now (findings .entry)) before (now (findings .exit)) r ⌝ }
 {
-    let block = block_by(k);
+    let block = assertions_block(k);
     let key = wide(t.s.0);
     let mut done = before;
     let mut cur = head(ix, block, key);
@@ -309,7 +307,7 @@ fn check_row(
 
 // Appends what the first n rows give, from the last row to the first.
 fn check_rows(store: &[u32], hash: &[u32], ix: &[u32], n: usize, findings: &mut [u32]) -> Checked
-    requires { ⌜ Readable (now store) (now hash) (now ix) n × (length (now findings) ≤ 5 * 65535) ⌝ }
+    requires { ⌜ Readable (now store) (now hash) (now ix) n × (length (now findings) ≤ finding-width * finding-limit) ⌝ }
     ensures { λ r. ⌜ Appended (GivenByRows (now (store .entry)) n) (now (findings .entry)) nothing-yet (now (findings .exit)) r ⌝ }
 {
     let mut done = Checked {
@@ -345,7 +343,7 @@ pub fn check(store: &[u32], hash: &[u32], ix: &[u32], n: usize, findings: &mut [
         return found;
     }
     let count = found.n;
-    sort_rows(&mut *findings, WIDTH, count);
-    clear_from(&mut *findings, WIDTH * count);
+    sort_rows(&mut *findings, FINDING_WIDTH, count);
+    clear_from(&mut *findings, FINDING_WIDTH * count);
     found
 }

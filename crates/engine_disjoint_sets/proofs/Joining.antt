@@ -10,12 +10,12 @@ use Rattle.common.specs.Vocabulary.{nil, rest}
 use Rattle.meaning.specs.Rules.{Graph}
 use Rattle.meaning.specs.ListSets.{Joined, alone, forth, back, merge}
 use Rattle.meaning.proofs.ListSets.{joined-trans, joined-sym, joined-eq, joined-up}
-use Rattle.store_rows.specs.Rows.{rowAt, InRows}
+use Rattle.store_rows.specs.Rows.{rowAt, InRows, row-graph}
 use Rattle.store_rows.proofs.Cases.{is-or-not}
 use Rattle.store_rows.proofs.Rows.{triple-eq}
 use Rattle.engine_disjoint_sets.specs.Places.{place-of, id-of, IsPlace, TermRoom}
 use Rattle.engine_disjoint_sets.specs.Forest.{root-of, Alone, United, Settled}
-use Rattle.engine_disjoint_sets.specs.Groups.{row-graph, StartRows, Ends, Tried, Agrees, head-of, Grouped}
+use Rattle.engine_disjoint_sets.specs.Groups.{StartRows, Ends, Tried, Agrees, head-of, Grouped}
 use Rattle.engine_disjoint_sets.proofs.Roots.{root-low, root-place}
 use Rattle.engine_disjoint_sets.proofs.Hanging.{merge-hit, merge-miss}
 use Rattle.engine_disjoint_sets.proofs.Loops.{room-kept, place-in}

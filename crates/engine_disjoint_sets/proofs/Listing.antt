@@ -15,8 +15,9 @@ use Rattle.store_rows.specs.Chains.{keys, block, Chain, Room, entered}
 use Rattle.store_rows.proofs.Cases.{is-or-not}
 use Rattle.store_rows.proofs.Chain.{length-entered, entered-other, chain-none, chain-entered, enter-keeps}
 use Rattle.engine_disjoint_sets.specs.Groups.{head-of}
-use Rattle.engine_disjoint_sets.specs.Lists.{members-at, lists-at, no-id, first-key, member-key, list-key, both-entered, Keyed}
-use Rattle.engine_disjoint_sets.specs.Lists.{ListableRow, Listable, Listed}
+use Rattle.store_rows.specs.Layout.{members-at, lists-at}
+use Rattle.engine_disjoint_sets.specs.Lists.{no-id, first-key, member-key, list-key, both-entered, Keyed, ListableRow, Listable}
+use Rattle.engine_disjoint_sets.specs.Lists.{Listed}
 
 -- the key of an rdf:first triple, and of any other
 pub key-first : (t : Triple) (x : ℕ) → t .p ≡ first → first-key t x ≡ x

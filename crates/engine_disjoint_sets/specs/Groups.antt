@@ -5,7 +5,7 @@ use mathlib.Core.Logic.{_⊎_, _≢_}
 use mathlib.Core.List.{List}
 use Prim.Native.Nat.{ℕ, _*_, _≤_, _<_}
 use lib.ListN.{length}
-use Rattle.common.specs.Triples.{Triple, triple, In}
+use Rattle.common.specs.Triples.{Triple, In}
 use Rattle.common.specs.Vocabulary.{nil, rest}
 use Rattle.meaning.specs.Rules.{Graph}
 use Rattle.meaning.specs.ListSets.{Joined}
@@ -13,10 +13,6 @@ use Rattle.store_rows.specs.Rows.{width, rowAt, InRows}
 use Rattle.store_rows.specs.Chains.{keys}
 use Rattle.engine_disjoint_sets.specs.Places.{place-of, id-of, PlaceIn}
 use Rattle.engine_disjoint_sets.specs.Forest.{Forest, root-of, United, root-word}
-
--- the triples of the first n rows
-abbrev pub row-graph : List ℕ → ℕ → Graph
-row-graph store n s p o = InRows store n (triple s p o)
 
 -- these triples are the first n rows
 pub record SameTriples (store : List ℕ) (n : ℕ) (ts : List Triple) : Type 0 where

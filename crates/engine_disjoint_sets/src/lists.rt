@@ -3,31 +3,28 @@ use crate::idx2uri;
 use crate::union_find::alone;
 use crate::union_find::root;
 use crate::union_find::union;
-use crate::union_find::wide;
 use crate::uri2idx;
+use common::ENTRY_LIMIT;
 use common::Id;
 use common::Triple;
 use common::Vocab;
-use store_rows::chains::BLOCK;
+use store_rows::LISTS;
+use store_rows::MEMBERS;
 use store_rows::enter;
 use store_rows::row;
+use store_rows::wide;
 ghost use mathlib.Core.Path.{_≡_};
 ghost use Prim.Native.Nat.{_+_, _<_};
 ghost use lib.ListN.{length};
 ghost use Rattle.common.specs.Values.{triple-of};
 ghost use Rattle.engine_disjoint_sets.specs.Places.{place-of, TermRoom};
 ghost use Rattle.engine_disjoint_sets.specs.Forest.{Forest};
-ghost use Rattle.engine_disjoint_sets.specs.Groups.{Ends, Tried, StartRows, Agrees, row-graph, head-of};
+ghost use Rattle.store_rows.specs.Rows.{row-graph};
+ghost use Rattle.engine_disjoint_sets.specs.Groups.{Ends, Tried, StartRows, Agrees, head-of};
 ghost use Rattle.engine_disjoint_sets.specs.Lists.{first-key, member-key, ListableRow, both-entered, Listable, Listed};
 
-// The blocks of the index buffer with the chains of rdf:first rows, behind the store's own: by the group of their subject, and by
-// their object.
-pub const MEMBERS: usize = 4 * BLOCK;
-
-pub const LISTS: usize = 5 * BLOCK;
-
 // The key of every other row: no id is as large.
-const NO_ID: usize = 65535;
+const NO_ID: usize = ENTRY_LIMIT;
 
 // One triple: rdf:rest joins its subject and its object, other than nil.
 fn join(work: &mut [u32], t: Triple)

@@ -3,17 +3,13 @@
 use crate::Place;
 use crate::uri2idx;
 use common::Id;
+use store_rows::wide;
 ghost use mathlib.Core.Path.{_≡_};
 ghost use Prim.Native.Nat.{_+_, _<_, _^_};
 ghost use lib.ListN.{length, set};
 ghost use Rattle.engine_disjoint_sets.specs.Places.{PlaceIn, TermRoom, Word};
-ghost use Rattle.engine_disjoint_sets.specs.Forest.{parent, Forest, root-of, Rooted, Alone, United, root-word, RootsBelow, Settled};
-
-pub fn wide(x: u32) -> usize
-    ensures { λ r. ⌜ Word x r ⌝ }
-{
-    x as usize
-}
+ghost use Rattle.engine_disjoint_sets.specs.Forest.{parent, Forest, root-of, Rooted, Alone, United, root-word, RootsBelow};
+ghost use Rattle.engine_disjoint_sets.specs.Forest.{Settled};
 
 // The place of the parent.
 fn up(work: &[u32], p: Place) -> Place

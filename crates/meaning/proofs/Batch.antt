@@ -3,9 +3,8 @@ use mathlib.Core.Path.{_≡_, refl, sym, subst}
 use mathlib.Core.Bool.{Bool, true, false}
 use mathlib.Core.Logic.{_⊎_, inl, inr}
 use mathlib.Core.List.{List, [], _∷_, _++_}
-use Prim.Native.Nat.{ℕ, suc, _≤_}
+use Prim.Native.Nat.{ℕ}
 use lib.Dec.{T}
-use lib.ListN.{length}
 use Rattle.common.specs.Triples.{Triple, triple, In, here, if, concat-map, key-triple, Ascending, no-zero, without-zero}
 use Rattle.meaning.specs.Containers.{Containers}
 use Rattle.meaning.specs.Start.{axioms-of, axioms, base, start}
@@ -14,7 +13,7 @@ use Rattle.meaning.specs.Closure.{Sub, closure}
 use Rattle.meaning.specs.Batch.{IsList}
 use Rattle.common.proofs.Lists.{in-nil, in-cons, in-left, in-right, in-cases, in-concat→, in-concat←, in-if→, in-if←}
 use Rattle.meaning.proofs.Start.{start-load, start-base, start-axiom, start→}
-use Rattle.meaning.proofs.LoadClosure.{Closure, closure-least, closure-in, Complete, complete→, one-list, both-fit}
+use Rattle.meaning.proofs.LoadClosure.{Closure, closure-least, closure-in, Complete, complete→}
 
 -- N is A's answer, A has no zero id (refusal 5), and demand 3's conditions hold.
 pub record Batch (c : Containers) (A B N : List Triple) : Type 0 where
@@ -104,15 +103,6 @@ module _ (c : Containers) (A B N : List Triple) (h : Batch c A B N) where
 
   pub batch← : Sub (Closure c (A ++ B)) (Closure c (N ++ B))
   batch← = closure-in c (A ++ B) (N ++ B) (λ t i l. AB-in-NB t i) (λ t i l. in-left B (NB-lists t i l)) start-in
-
--- DEMAND 3, the lists: with stores of the same length both runs fit or neither does, and where they fit they hold one list
-pub batch-fits : (c : Containers) (A B N : List Triple) → Batch c A B N → (cap : ℕ)
-    → length (closure c (suc cap) (N ++ B)) ≤ cap → length (closure c (suc cap) (A ++ B)) ≤ cap
-batch-fits c A B N h cap k = both-fit c (N ++ B) (A ++ B) (batch→ c A B N h) (batch← c A B N h) cap k
-
-pub batch-list : (c : Containers) (A B N : List Triple) → Batch c A B N → (n m : ℕ) → Complete c n (N ++ B)
-    → Complete c m (A ++ B) → closure c n (N ++ B) ≡ closure c m (A ++ B)
-batch-list c A B N h n m s t = one-list c (N ++ B) (A ++ B) (batch→ c A B N h) (batch← c A B N h) n m s t
 
 -- the answer that a complete closure gives is the N of a batch
 pub in-without-zero→ : (ts : List Triple) (t : Triple) → In t (without-zero ts) → In t ts × T (no-zero t)

@@ -1,5 +1,7 @@
 pub mod Table
 pub mod Rules
+pub mod Analysis
+pub mod Premises
 pub mod Checks
 pub mod Counts
 pub mod ListSets

@@ -1,10 +1,11 @@
 -- Cases of numbers and answers. Assumes nothing.
-use mathlib.Core.Path.{_≡_}
+use mathlib.Core.Path.{_≡_, sym}
 use mathlib.Core.Logic.{_⊎_, inl, inr}
-use mathlib.Core.Bool.{true, false}
+use mathlib.Core.Bool.{Bool, true, false}
 use Prim.Native.Nat.{ℕ, _+_, _≤_, _<_}
 use native.Mathlib.Omega.{arith}
 use native.Mathlib.Decide.{decLt, ℕ-discrete}
+use Rattle.store_rows.specs.Rows.{Reflects}
 
 -- a number is another, or it is not
 pub is-or-not : (a b : ℕ) → (a ≡ b) ⊎ (a ≡ b → ⊥)
@@ -39,3 +40,11 @@ below-or i n h = elim (decLt i n) [ yes e ↦ inl e | no f ↦ inr (omega arith)
 -- the two answers differ
 pub true-false : {A : Type 0} → true ≡ false → A
 true-false e = absurd (let z : _≡_ {A = ℕ} 0 1 = cc in omega arith)
+
+-- a test that failed
+pub reflects-no : {P : Type 0} → (P → ⊥) → Reflects P false
+reflects-no f = record { yes = λ e. true-false (sym e); no = λ _. f }
+
+-- the same test of another fact
+pub reflects-iff : {P Q : Type 0} {r : Bool} → (P → Q) → (Q → P) → Reflects P r → Reflects Q r
+reflects-iff f g a = record { yes = λ e. f (a .yes e); no = λ e q. a .no e (g q) }

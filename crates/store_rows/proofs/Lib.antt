@@ -1,6 +1,7 @@
 pub mod Cases
 pub mod Listed
 pub mod Rows
+pub mod InRows
 pub mod Chain
 pub mod Adds
 pub mod Membership

@@ -1,4 +1,5 @@
 pub mod Rows
 pub mod Chains
+pub mod Layout
 pub mod Store
 pub mod Zeros

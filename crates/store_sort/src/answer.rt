@@ -1,6 +1,6 @@
 // What stands in the store at the end: the rows in order, without those that have an id 0, then zeros.
 use crate::sort::sort_rows;
-use store_rows::WIDTH;
+use common::STORE_WIDTH;
 use store_rows::clear_from;
 use store_rows::remove_zero_rows;
 ghost use Rattle.store_sort.specs.Answer.{DistinctRows, Answer};
@@ -10,8 +10,8 @@ pub fn leave_answer(store: &mut [u32], n: usize) -> usize
     requires { ⌜ DistinctRows n (now store) ⌝ }
     ensures { λ r. ⌜ Answer n (now (store .entry)) r (now (store .exit)) ⌝ }
 {
-    sort_rows(&mut *store, WIDTH, n);
+    sort_rows(&mut *store, STORE_WIDTH, n);
     let kept = remove_zero_rows(&mut *store, n);
-    clear_from(&mut *store, WIDTH * kept);
+    clear_from(&mut *store, STORE_WIDTH * kept);
     kept
 }

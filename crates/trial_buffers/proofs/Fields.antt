@@ -18,7 +18,8 @@ use Rattle.edge_decimal.specs.declared.Field.{Field}
 use Rattle.edge_decimal.specs.declared.Field.the-variants.{Number, Bad as No-number}
 use Rattle.trial_buffers.specs.declared.reader.Read.{Read}
 use Rattle.trial_buffers.specs.declared.reader.Cursor.{Cursor}
-use Rattle.trial_buffers.specs.Reading.{ends, field, end-from, read-field, read-from, cursor-after, number-after, is-byte, byte-of}
+use Rattle.trial_buffers.specs.Reading.{ends, field, end-from, read-field, read-from, cursor-after, number-after, is-byte}
+use Rattle.trial_buffers.specs.Reading.{byte-of}
 
 -- the front of a text that a field is
 pub field-front : (l : List ℕ) → take (length (field l)) l ≡ field l

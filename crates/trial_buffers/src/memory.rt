@@ -1,4 +1,4 @@
-// A memory: numbers by cell, on which program replay makes its calls. crates/replay/README.md has the map of its cells.
+// A memory: numbers by cell, on which program trial_replay makes its calls. crates/trial_replay/README.md has the map of its cells.
 ghost use mathlib.Core.Path.{_≡_};
 ghost use Prim.Native.Nat.{_%_, _≤_};
 ghost use lib.ListN.{getD, set, length};
@@ -60,12 +60,6 @@ pub fn give_numbers(memory: &mut [u32], at: usize, row: &[u32])
     }
 }
 
-fn wide(b: u8) -> u32
-    ensures { λ r. ⌜ r ≡ b ⌝ }
-{
-    b as u32
-}
-
 pub fn give_bytes(memory: &mut [u32], at: usize, row: &[u8])
     ensures { λ _. ⌜ now (memory .exit) ≡ given (now (memory .entry)) at (now (row .entry)) (length (now (row .entry))) ⌝ }
 {
@@ -74,7 +68,7 @@ pub fn give_bytes(memory: &mut [u32], at: usize, row: &[u8])
         set_cell(
             &mut *memory,
             std::num::wrapping_add_usize(at, i),
-            wide(row[i]),
+            row[i] as u32,
         );
         i += 1;
     }

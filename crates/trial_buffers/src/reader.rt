@@ -7,7 +7,8 @@ ghost use Prim.Native.Nat.{_+_, _≤_};
 ghost use lib.Dec.{ltb};
 ghost use lib.ListN.{length};
 ghost use Rattle.common.specs.Triples.{if};
-ghost use Rattle.trial_buffers.specs.Reading.{ends, end-from, read-from, cursor-after, number-after, any, is-byte, byte-of as byte·of};
+ghost use Rattle.trial_buffers.specs.Reading.{ends, end-from, read-from, cursor-after, number-after, any, is-byte};
+ghost use Rattle.trial_buffers.specs.Reading.{byte-of as byte·of};
 ghost use Rattle.trial_buffers.specs.Memory.{Each};
 
 // A place in the text, and whether all before it could be read.
@@ -87,7 +88,8 @@ pub fn both(a: bool, b: bool) -> bool
 
 // Fills the row with the numbers from the cursor on.
 pub fn read_row(text: &[u8], from: Cursor, row: &mut [u32]) -> Cursor
-    ensures { λ r. ⌜ (r ≡ cursor-after any (now (text .entry)) from (length (now (row .entry)))) × Each (number-after any (now (text .entry)) from) (now (row .exit)) ⌝ }
+    ensures { λ r. ⌜ (r ≡ cursor-after any (now (text .entry)) from (length (now (row .entry))))
+        × Each (number-after any (now (text .entry)) from) (now (row .exit)) ⌝ }
 {
     let mut at = from.at;
     let mut ok = from.ok;
@@ -125,7 +127,8 @@ fn byte_of(n: u32) -> Byte
 
 // Fills the row with the bytes whose numbers stand from the cursor on.
 pub fn read_bytes(text: &[u8], from: Cursor, row: &mut [u8]) -> Cursor
-    ensures { λ r. ⌜ (r ≡ cursor-after is-byte (now (text .entry)) from (length (now (row .entry)))) × Each (λ k. byte·of (number-after is-byte (now (text .entry)) from k)) (now (row .exit)) ⌝ }
+    ensures { λ r. ⌜ (r ≡ cursor-after is-byte (now (text .entry)) from (length (now (row .entry))))
+        × Each (λ k. byte·of (number-after is-byte (now (text .entry)) from k)) (now (row .exit)) ⌝ }
 {
     let mut at = from.at;
     let mut ok = from.ok;

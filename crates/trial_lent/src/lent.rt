@@ -2,7 +2,7 @@
 use dictionary_index::Counters;
 use dictionary_index::PutNext;
 use dictionary_index::put;
-use edge_records::Finding;
+use edge_records::FindingRecord;
 use edge_records::findings_as_records;
 ghost use mathlib.Core.Path.{_≡_};
 ghost use Prim.Native.Nat.{_≤_};
@@ -37,11 +37,11 @@ pub fn put_lent(
 // The answer, and the four records afterwards.
 pub struct Filled {
     pub number: u32,
-    pub records: [Finding; 4],
+    pub records: [FindingRecord; 4],
 }
 
 // The records' call on the first n of four records, which are lent; the others stay.
-pub fn fill_lent(numbers: &[u32], records: [Finding; 4], n: usize) -> Filled
+pub fn fill_lent(numbers: &[u32], records: [FindingRecord; 4], n: usize) -> Filled
     requires { ⌜ n ≤ 4 ⌝ }
     ensures { λ r. ⌜ r ≡ filled-of (records-give (now (numbers .entry)) (take n records)) (drop n records) ⌝ }
 {

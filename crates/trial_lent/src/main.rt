@@ -1,13 +1,14 @@
-// Calls the two public functions that are lent structs: dictionary_index::put, which is lent the counters, and edge_records::findings_as_records, which
-// is lent a slice of findings. What each call must give is written here as REFERENCE 3.2 and 7.3 have it, and what it gives is compared
-// with that. In the lists of wrong expectations each call has one that is wrong on purpose, and must come out as a difference.
+// Calls the two public functions that are lent structs: dictionary_index::put, which is lent the counters, and
+// edge_records::findings_as_records, which is lent a slice of records. What each call must give is written here as REFERENCE 3.2 and 7.3
+// have it, and what it gives is compared with that. In the lists of wrong expectations each call has one that is wrong on purpose, and must
+// come out as a difference.
 mod lent; // lent.rt: the two calls, for callers that have the structs by value
 
 use dictionary_index::Counters;
 use dictionary_index::start;
 use dictionary_layout::bytes::same_bytes;
 use dictionary_layout::bytes::same_numbers;
-use edge_records::Finding;
+use edge_records::FindingRecord;
 use lent::fill_lent;
 use lent::put_lent;
 ghost use Prim.Native.Nat.{_≤_, _<_};
@@ -202,12 +203,12 @@ fn print_puts() {
     print_list(b"put with lent counters, wrong expectations", w.tally);
 }
 
-fn finding(check: u32, a: u32, b: u32, c: u32, d: u32) -> Finding {
-    Finding { check, a, b, c, d }
+fn finding(check: u32, a: u32, b: u32, c: u32, d: u32) -> FindingRecord {
+    FindingRecord { check, a, b, c, d }
 }
 
 // What the four records hold beforehand.
-fn marks() -> [Finding; 4] {
+fn marks() -> [FindingRecord; 4] {
     let first = finding(101, 102, 103, 104, 105);
     let second = finding(106, 107, 108, 109, 110);
     let third = finding(111, 112, 113, 114, 115);
@@ -215,11 +216,11 @@ fn marks() -> [Finding; 4] {
     [first, second, third, fourth]
 }
 
-fn same_finding(x: Finding, y: Finding) -> bool {
+fn same_finding(x: FindingRecord, y: FindingRecord) -> bool {
     x.check == y.check && x.a == y.a && x.b == y.b && x.c == y.c && x.d == y.d
 }
 
-fn same_findings(x: [Finding; 4], y: [Finding; 4]) -> bool {
+fn same_findings(x: [FindingRecord; 4], y: [FindingRecord; 4]) -> bool {
     let first = same_finding(x[0], y[0]);
     let second = same_finding(x[1], y[1]);
     let third = same_finding(x[2], y[2]);
@@ -228,7 +229,7 @@ fn same_findings(x: [Finding; 4], y: [Finding; 4]) -> bool {
 }
 
 // The first m of the numbers of four findings, as findings in the first n of the marks: the answer, and the four records afterwards.
-fn filled(tally: Tally, m: usize, n: usize, number: u32, due: [Finding; 4]) -> Tally
+fn filled(tally: Tally, m: usize, n: usize, number: u32, due: [FindingRecord; 4]) -> Tally
     requires { ⌜ m ≤ 20 ⌝ }
     requires { ⌜ n ≤ 4 ⌝ }
 {
@@ -295,7 +296,7 @@ fn refused() -> Tally {
 }
 
 // Four findings, of which that at a place is wrong.
-fn wrong(tally: Tally, place: usize, f: Finding) -> Tally
+fn wrong(tally: Tally, place: usize, f: FindingRecord) -> Tally
     requires { ⌜ place < 4 ⌝ }
 {
     let first = finding(1, 31, 32, 33, 0);

@@ -17,8 +17,14 @@ use Rattle.dictionary_layout.proofs.Decoding.{length-span}
 use Rattle.driver_load.specs.Lent.{Lent, lent}
 use Rattle.driver_run.specs.Run.{Run-result, run-gives}
 use Rattle.trial_buffers.specs.Memory.{cell-from, length-at, Each}
-use Rattle.trial_replay.specs.Made.{numbers-from, bytes-from, give, Held, held, answered, start-made, put-made, narrowed, lookup-made}
-use Rattle.trial_replay.specs.Made.{Run-held, run-held, run-part, run-lent, run-taken, run-made, made-on, made-lent, made}
+use Rattle.trial_replay.specs.Made.{numbers-from, bytes-from, give, Held, held, answered, start-made, put-made, narrowed}
+use Rattle.trial_replay.specs.Made.{lookup-made, Run-held, run-held, run-part, run-lent, run-taken, run-made, made-on, made-lent}
+use Rattle.trial_replay.specs.Made.{made}
+use Rattle.trial_replay.specs.Cells.{table-length-cell, arena-length-cell, term-length-cell, load-length-cell, store-length-cell}
+use Rattle.trial_replay.specs.Cells.{findings-length-cell, work-length-cell, put-kind-cell, lookup-id-cell, terms-cell, used-cell}
+use Rattle.trial_replay.specs.Cells.{id-cell, kind-cell, part-length-cell, count-cell, counts-cells, table-cells, arena-cells}
+use Rattle.trial_replay.specs.Cells.{term-cells, part-cells, store-cells, findings-cells, work-cells, load-cells, table-room}
+use Rattle.trial_replay.specs.Cells.{arena-room, term-room, store-room, findings-room, work-room, load-room}
 
 -- A ROW FROM THE CELLS
 span-at : (n i : ℕ) (f : ℕ → ℕ) (k : ℕ) → k < n → getD (span n i f) k 0 ≡ f (i + k)
@@ -56,23 +62,25 @@ module _ (m table arena : List ℕ) where
   unfolding start-made
   start-is e f = rw (f, ← e) refl
 
-  module _ {k : Counters} (c : k ≡ record { terms = getD m 9 0; used = getD m 10 0 }) where
-    pub put-is : (bytes : List ℕ) {kind n : ℕ} → kind ≡ getD m 7 0 → n ≡ length-at m 2 (length bytes) → {p : Put-result} →
-        p ≡ put-gives (contents table arena k) (term kind (take n bytes)) → {m₁ m₂ : List ℕ} → m₁ ≡ set m 12 (p .id) →
+  module _ {k : Counters} (c : k ≡ record { terms = getD m terms-cell 0; used = getD m used-cell 0 }) where
+    pub put-is : (bytes : List ℕ) {kind n : ℕ} → kind ≡ getD m put-kind-cell 0 → n ≡ length-at m term-length-cell (length bytes) →
+        {p : Put-result} →
+        p ≡ put-gives (contents table arena k) (term kind (take n bytes)) → {m₁ m₂ : List ℕ} → m₁ ≡ set m id-cell (p .id) →
         m₂ ≡ answered m₁ (p .number) (p .contents .terms) (p .contents .used) →
         held m₂ (p .contents .table) (p .contents .arena) ≡ put-made (held m table arena) bytes
     unfolding put-made
     put-is bytes d l e f g = let e₁ = rw (c, d, l) at e in rw (g, f, ← e₁) refl
 
-    pub lookup-is : {id : ℕ} → id ≡ getD m 8 0 → {l : Lookup-answer} → l ≡ lookup-gives (contents table arena k) id → {m₁ : List ℕ} →
-        m₁ ≡ set m 13 (l .kind) → {w : ℕ} → w ≡ narrowed (length (l .part)) → {m₂ m₃ m₄ : List ℕ} → m₂ ≡ set m₁ 14 w →
-        m₃ ≡ give m₂ 14052 (l .part) → m₄ ≡ answered m₃ (l .number) (k .terms) (k .used) →
+    pub lookup-is : {id : ℕ} → id ≡ getD m lookup-id-cell 0 → {l : Lookup-answer} →
+        l ≡ lookup-gives (contents table arena k) id → {m₁ : List ℕ} →
+        m₁ ≡ set m kind-cell (l .kind) → {w : ℕ} → w ≡ narrowed (length (l .part)) → {m₂ m₃ m₄ : List ℕ} → m₂ ≡ set m₁ part-length-cell w →
+        m₃ ≡ give m₂ part-cells (l .part) → m₄ ≡ answered m₃ (l .number) (k .terms) (k .used) →
         held m₄ table arena ≡ lookup-made (held m table arena)
     unfolding lookup-made
     lookup-is d e f₁ n f₂ f₃ f₄ = let e₁ = rw (c, d) at e in let f = rw c at f₄ in rw (f, f₃, f₂, n, f₁, ← e₁) refl
 
     pub run-is : (b : Lent) {r : Run-result} → r ≡ run-gives (contents table arena k) b → {m₁ : List ℕ} →
-        m₁ ≡ answered (give (set m 15 (r .answer .count)) 16 (r .answer .counts)) (r .answer .number) (r .contents .terms)
+        m₁ ≡ answered (give (set m count-cell (r .answer .count)) counts-cells (r .answer .counts)) (r .answer .number) (r .contents .terms)
         (r .contents .used) →
         run-held (held m₁ (r .contents .table) (r .contents .arena)) (r .answer .store) (r .answer .findings) (r .answer .work) ≡
         run-part (held m table arena) b
@@ -81,24 +89,27 @@ module _ (m table arena : List ℕ) where
 
 -- a run in parts of its buffers
 module _ (h : Held) where
-  pub run-lent-is : (b : Lent) {l s f w : ℕ} → l ≡ length-at (h .memory) 3 (length (b .load)) →
-      s ≡ length-at (h .memory) 4 (length (b .store)) → f ≡ length-at (h .memory) 5 (length (b .findings)) →
-      w ≡ length-at (h .memory) 6 (length (b .work)) → {r : Run-held} →
+  pub run-lent-is : (b : Lent) {l s f w : ℕ} → l ≡ length-at (h .memory) load-length-cell (length (b .load)) →
+      s ≡ length-at (h .memory) store-length-cell (length (b .store)) →
+      f ≡ length-at (h .memory) findings-length-cell (length (b .findings)) →
+      w ≡ length-at (h .memory) work-length-cell (length (b .work)) → {r : Run-held} →
       r ≡ run-part h (lent (take l (b .load)) (take s (b .store)) (take f (b .findings)) (take w (b .work))) →
       run-held (r .held) (r .store ++ drop s (b .store)) (r .findings ++ drop f (b .findings)) (r .work ++ drop w (b .work)) ≡ run-lent h b
   unfolding run-lent
   run-lent-is b el es ef ew e = let e₁ = rw (el, es, ef, ew) at e in rw (es, ef, ew, ← e₁) refl
 
   -- in buffers that were taken from the cells
-  pub run-taken-is : (s f w : ℕ) {load store findings work : List ℕ} → load ≡ numbers-from (h .memory) 20952 49160 →
-      store ≡ numbers-from (h .memory) 18152 s → findings ≡ numbers-from (h .memory) 20252 f → work ≡ numbers-from (h .memory) 20752 w →
+  pub run-taken-is : (s f w : ℕ) {load store findings work : List ℕ} → load ≡ numbers-from (h .memory) load-cells load-room →
+      store ≡ numbers-from (h .memory) store-cells s → findings ≡ numbers-from (h .memory) findings-cells f →
+      work ≡ numbers-from (h .memory) work-cells w →
       {r : Run-held} → r ≡ run-lent h (lent load store findings work) → r ≡ run-taken h s f w
   unfolding run-taken
   run-taken-is s f w el es ef ew e = rw (el, es, ef, ew) at e
 
   -- and are given back
-  pub run-made-is : {s f w : ℕ} → s ≡ 2100 → f ≡ 500 → w ≡ 200 → {r : Run-held} → r ≡ run-taken h s f w → {m₁ m₂ m₃ : List ℕ} →
-      m₁ ≡ give (r .held .memory) 18152 (r .store) → m₂ ≡ give m₁ 20252 (r .findings) → m₃ ≡ give m₂ 20752 (r .work) →
+  pub run-made-is : {s f w : ℕ} → s ≡ store-room → f ≡ findings-room → w ≡ work-room → {r : Run-held} →
+      r ≡ run-taken h s f w → {m₁ m₂ m₃ : List ℕ} →
+      m₁ ≡ give (r .held .memory) store-cells (r .store) → m₂ ≡ give m₁ findings-cells (r .findings) → m₃ ≡ give m₂ work-cells (r .work) →
       held m₃ (r .held .table) (r .held .arena) ≡ run-made h
   unfolding run-made
   run-made-is es ef ew e f₁ f₂ f₃ = let e₁ = rw (es, ef, ew) at e in rw (f₃, f₂, f₁, ← e₁) refl
@@ -110,7 +121,7 @@ module _ (call : ℕ) (h : Held) {r : Held} where
   on-start z e = let q = eq-eqb call 0 z in rw q e
 
   module _ (n₀ : call ≢ 0) where
-    pub on-put : call ≡ 1 → r ≡ put-made h (bytes-from (h .memory) 9952 4100) → r ≡ made-on call h
+    pub on-put : call ≡ 1 → r ≡ put-made h (bytes-from (h .memory) term-cells term-room) → r ≡ made-on call h
     unfolding made-on
     on-put z e = let q₀ = ne-eqb call 0 n₀ in let q = eq-eqb call 1 z in rw (q₀, q) e
 
@@ -139,16 +150,18 @@ module _ (call : ℕ) (h : Held) {r : Held} where
             rw (q₀, q₁, q₂, q) e
 
 -- on parts of table and arena
-pub made-lent-is : (call : ℕ) (h : Held) {t a : ℕ} → t ≡ length-at (h .memory) 0 (length (h .table)) →
-    a ≡ length-at (h .memory) 1 (length (h .arena)) → {r : Held} →
+pub made-lent-is : (call : ℕ) (h : Held) {t a : ℕ} → t ≡ length-at (h .memory) table-length-cell (length (h .table)) →
+    a ≡ length-at (h .memory) arena-length-cell (length (h .arena)) → {r : Held} →
     r ≡ made-on call (held (h .memory) (take t (h .table)) (take a (h .arena))) →
     held (r .memory) (r .table ++ drop t (h .table)) (r .arena ++ drop a (h .arena)) ≡ made-lent call h
 unfolding made-lent
 made-lent-is call h et ea e = let e₁ = rw (et, ea) at e in rw (et, ea, ← e₁) refl
 
 -- which are taken from the cells and given back
-pub made-is : (call : ℕ) (m : List ℕ) {table arena : List ℕ} → table ≡ numbers-from m 32 320 → arena ≡ bytes-from m 352 9600 → {h : Held} →
-    h ≡ made-lent call (held m table arena) → {m₁ m₂ : List ℕ} → m₁ ≡ give (h .memory) 32 (h .table) → m₂ ≡ give m₁ 352 (h .arena) →
+pub made-is : (call : ℕ) (m : List ℕ) {table arena : List ℕ} → table ≡ numbers-from m table-cells table-room →
+    arena ≡ bytes-from m arena-cells arena-room → {h : Held} →
+    h ≡ made-lent call (held m table arena) → {m₁ m₂ : List ℕ} → m₁ ≡ give (h .memory) table-cells (h .table) →
+    m₂ ≡ give m₁ arena-cells (h .arena) →
     m₂ ≡ made call m
 unfolding made
 made-is call m et ea e f₁ f₂ = let e₁ = rw (et, ea) at e in rw (← e₁, ← f₁) f₂

@@ -18,8 +18,8 @@ use Rattle.trial_replay.specs.declared.lines.Turn.{Turn}
 use Rattle.trial_replay.specs.declared.lines.Span.{Span}
 use Rattle.trial_replay.specs.Made.{numbers-from, made}
 use Rattle.trial_replay.specs.Text.{after, cells-from, span-from, put-in, edited, written, filled, edits, edited-by, one-if}
-use Rattle.trial_replay.specs.Text.{difference}
-use Rattle.trial_replay.specs.Text.{called, call-made, Memories, memories, kept-by, played, quiet-turn, line-played, list-end}
+use Rattle.trial_replay.specs.Text.{difference, called, call-made, Memories, memories, kept-by, played, quiet-turn, line-played}
+use Rattle.trial_replay.specs.Text.{list-end}
 use Rattle.trial_replay.proofs.Making.{each-span}
 
 -- THE CELLS of a line

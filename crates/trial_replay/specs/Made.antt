@@ -1,5 +1,4 @@
--- The calls on a memory: what each takes from the cells and leaves there. crates/replay/README.md has the map of the cells. Assumes
--- nothing.
+-- The calls on a memory: what each takes from the cells and leaves there. Assumes nothing.
 use mathlib.Core.List.{List, _++_}
 use Prim.Native.Nat.{ℕ, _%_}
 use lib.Dec.{eqb, ltb}
@@ -11,6 +10,11 @@ use Rattle.dictionary_layout.specs.Calls.{start-gives, put-gives, lookup-gives}
 use Rattle.driver_load.specs.Lent.{Lent, lent}
 use Rattle.driver_run.specs.Run.{run-gives}
 use Rattle.trial_buffers.specs.Memory.{cell-from, length-at, given}
+use Rattle.trial_replay.specs.Cells.{table-length-cell, arena-length-cell, term-length-cell, load-length-cell, store-length-cell}
+use Rattle.trial_replay.specs.Cells.{findings-length-cell, work-length-cell, put-kind-cell, lookup-id-cell, terms-cell, used-cell}
+use Rattle.trial_replay.specs.Cells.{number-cell, id-cell, kind-cell, part-length-cell, count-cell, counts-cells, table-cells}
+use Rattle.trial_replay.specs.Cells.{arena-cells, term-cells, part-cells, store-cells, findings-cells, work-cells, load-cells}
+use Rattle.trial_replay.specs.Cells.{table-room, arena-room, term-room, store-room, findings-room, work-room, load-room}
 
 -- n numbers from a cell on, and n bytes
 unfoldable pub numbers-from : List ℕ → ℕ → ℕ → List ℕ
@@ -32,13 +36,13 @@ pub record Held : Type 0 where
 abbrev pub held : List ℕ → List ℕ → List ℕ → Held
 held m t a = record { memory = m; table = t; arena = a }
 
--- table and arena with the counters of the cells 9 and 10
+-- table and arena with the counters of the memory
 abbrev pub dictionary : Held → Dict
-dictionary h = dict (h .table) (h .arena) (getD (h .memory) 9 0) (getD (h .memory) 10 0)
+dictionary h = dict (h .table) (h .arena) (getD (h .memory) terms-cell 0) (getD (h .memory) used-cell 0)
 
--- the call's number in cell 11, and the counters after it
+-- the call's number, and the counters after it, in their cells
 abbrev pub answered : List ℕ → ℕ → ℕ → ℕ → List ℕ
-answered m number terms used = set (set (set m 11 number) 9 terms) 10 used
+answered m number terms used = set (set (set m number-cell number) terms-cell terms) used-cell used
 
 -- the contents that a call left, with its number and a memory
 abbrev pub left : List ℕ → ℕ → Dict → Held
@@ -48,23 +52,24 @@ left m number d = held (answered m number (d .terms) (d .used)) (d .table) (d .a
 unfoldable pub start-made : Held → Held
 start-made h = let s = start-gives (h .table) (h .arena) in left (h .memory) (s .number) (s .contents)
 
--- PUT of so many of these bytes as cell 2 says, of the kind in cell 7; the id in cell 12
+-- PUT of so many of these bytes as the memory says, and of its kind
 unfoldable pub put-made : Held → List ℕ → Held
 put-made h bytes =
     let m = h .memory in
-    let p = put-gives (dictionary h) (term (getD m 7 0) (take (length-at m 2 (length bytes)) bytes)) in
-    left (set m 12 (p .id)) (p .number) (p .contents)
+    let p = put-gives (dictionary h) (term (getD m put-kind-cell 0) (take (length-at m term-length-cell (length bytes)) bytes)) in
+    left (set m id-cell (p .id)) (p .number) (p .contents)
 
 -- a length as a number of the memory: no part is so long that it is none
 abbrev pub narrowed : ℕ → ℕ
 narrowed n = if (ltb n 4294967296) (λ _. n) (λ _. 0)
 
--- LOOKUP of the id in cell 8; the kind in cell 13, the part's length in cell 14, the part from cell 14052 on
+-- LOOKUP of the id that the memory names; the part is given to its cells
 unfoldable pub lookup-made : Held → Held
 lookup-made h =
     let m = h .memory in
-    let l = lookup-gives (dictionary h) (getD m 8 0) in
-    left (give (set (set m 13 (l .kind)) 14 (narrowed (length (l .part)))) 14052 (l .part)) (l .number) (dictionary h)
+    let l = lookup-gives (dictionary h) (getD m lookup-id-cell 0) in
+    let m₁ = set (set m kind-cell (l .kind)) part-length-cell (narrowed (length (l .part))) in
+    left (give m₁ part-cells (l .part)) (l .number) (dictionary h)
 
 -- what a run leaves: the memory with the dictionary, and its store, findings and list work buffer
 pub record Run-held : Type 0 where
@@ -76,21 +81,22 @@ pub record Run-held : Type 0 where
 abbrev pub run-held : Held → List ℕ → List ℕ → List ℕ → Run-held
 run-held h s f w = record { held = h; store = s; findings = f; work = w }
 
--- RUN in the buffers that it is lent; the count in cell 15, the five counts from cell 16 on
+-- RUN in the buffers that it is lent
 unfoldable pub run-part : Held → Lent → Run-held
 run-part h b =
     let r = run-gives (dictionary h) b in
     let a = r .answer in
-    run-held (left (give (set (h .memory) 15 (a .count)) 16 (a .counts)) (a .number) (r .contents)) (a .store) (a .findings) (a .work)
+    let m = give (set (h .memory) count-cell (a .count)) counts-cells (a .counts) in
+    run-held (left m (a .number) (r .contents)) (a .store) (a .findings) (a .work)
 
--- as much of each buffer as the cells 3 to 6 say, the rest of it as it was
+-- as much of each buffer as the memory says, the rest of it as it was
 unfoldable pub run-lent : Held → Lent → Run-held
 run-lent h b =
     let m = h .memory in
-    let s = length-at m 4 (length (b .store)) in
-    let f = length-at m 5 (length (b .findings)) in
-    let w = length-at m 6 (length (b .work)) in
-    let l = take (length-at m 3 (length (b .load))) (b .load) in
+    let s = length-at m store-length-cell (length (b .store)) in
+    let f = length-at m findings-length-cell (length (b .findings)) in
+    let w = length-at m work-length-cell (length (b .work)) in
+    let l = take (length-at m load-length-cell (length (b .load))) (b .load) in
     let r = run-part h (lent l (take s (b .store)) (take f (b .findings)) (take w (b .work))) in
     run-held (r .held) (r .store ++ drop s (b .store)) (r .findings ++ drop f (b .findings)) (r .work ++ drop w (b .work))
 
@@ -98,13 +104,14 @@ run-lent h b =
 unfoldable pub run-taken : Held → ℕ → ℕ → ℕ → Run-held
 run-taken h s f w =
     let m = h .memory in
-    run-lent h (lent (numbers-from m 20952 49160) (numbers-from m 18152 s) (numbers-from m 20252 f) (numbers-from m 20752 w))
+    let load = numbers-from m load-cells load-room in
+    run-lent h (lent load (numbers-from m store-cells s) (numbers-from m findings-cells f) (numbers-from m work-cells w))
 
 -- and given back to them
 unfoldable pub run-made : Held → Held
 run-made h =
-    let r = run-taken h 2100 500 200 in
-    let m = give (give (give (r .held .memory) 18152 (r .store)) 20252 (r .findings)) 20752 (r .work) in
+    let r = run-taken h store-room findings-room work-room in
+    let m = give (give (give (r .held .memory) store-cells (r .store)) findings-cells (r .findings)) work-cells (r .work) in
     held m (r .held .table) (r .held .arena)
 
 -- THE CALL with a number, on what it is lent: another number makes none
@@ -113,19 +120,19 @@ made-on call h =
     if (eqb call 0)
     (λ _. start-made h)
     (λ _. if (eqb call 1)
-    (λ _. put-made h (bytes-from (h .memory) 9952 4100))
+    (λ _. put-made h (bytes-from (h .memory) term-cells term-room))
     (λ _. if (eqb call 2) (λ _. lookup-made h) (λ _. if (eqb call 3) (λ _. run-made h) (λ _. h))))
 
--- as much of table and arena as the cells 0 and 1 say, the rest as it was
+-- as much of table and arena as the memory says, the rest as it was
 unfoldable pub made-lent : ℕ → Held → Held
 made-lent call h =
-    let t = length-at (h .memory) 0 (length (h .table)) in
-    let a = length-at (h .memory) 1 (length (h .arena)) in
+    let t = length-at (h .memory) table-length-cell (length (h .table)) in
+    let a = length-at (h .memory) arena-length-cell (length (h .arena)) in
     let r = made-on call (held (h .memory) (take t (h .table)) (take a (h .arena))) in
     held (r .memory) (r .table ++ drop t (h .table)) (r .arena ++ drop a (h .arena))
 
 -- table and arena taken from the cells, and given back
 unfoldable pub made : ℕ → List ℕ → List ℕ
 made call m =
-    let h = made-lent call (held m (numbers-from m 32 320) (bytes-from m 352 9600)) in
-    give (give (h .memory) 32 (h .table)) 352 (h .arena)
+    let h = made-lent call (held m (numbers-from m table-cells table-room) (bytes-from m arena-cells arena-room)) in
+    give (give (h .memory) table-cells (h .table)) arena-cells (h .arena)

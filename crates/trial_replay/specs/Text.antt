@@ -1,4 +1,4 @@
--- What the lines of a text do to the two memories and the saved one. crates/replay/README.md has their format. Assumes nothing.
+-- What the lines of a text do to the two memories and the saved one. crates/trial_replay/README.md has their format. Assumes nothing.
 use mathlib.Core.Bool.{Bool, true, false, not, _&&_}
 use mathlib.Core.List.{List, _++_}
 use Prim.Native.Nat.{ℕ, _+_, _-_}
@@ -139,6 +139,10 @@ line-played text line c =
     (λ _. if (eqb (line .value) 4)
     (λ _. played (k .turn) (memories (k .memory) (c .expected) (c .saved)))
     (λ _. played (quiet-turn (record { at = line .at; ok = true })) (kept-by (line .value) c)))
+
+-- the longest name of a list
+abbrev pub name-limit : ℕ
+name-limit = 60
 
 -- "7 n b1 .. bn": the end of a list whose name has at most so many bytes
 unfoldable pub list-end : List ℕ → ℕ → ℕ → Cursor

@@ -16,8 +16,9 @@ use trial_buffers::memory::take_numbers;
 ghost use mathlib.Core.Path.{_≡_};
 ghost use lib.ListN.{length, getD, set};
 ghost use Rattle.driver_load.specs.Lent.{lent};
-ghost use Rattle.trial_replay.specs.Made.{bytes-from, give, held, answered, start-made, put-made, narrowed, lookup-made, run-held};
-ghost use Rattle.trial_replay.specs.Made.{run-part, run-lent, run-taken, run-made, made-on, made-lent, made};
+ghost use Rattle.trial_replay.specs.Cells.{terms-cell, used-cell, count-cell, counts-cells, term-cells, term-room};
+ghost use Rattle.trial_replay.specs.Made.{bytes-from, give, held, answered, start-made, put-made, narrowed, lookup-made};
+ghost use Rattle.trial_replay.specs.Made.{run-held, run-part, run-lent, run-taken, run-made, made-on, made-lent, made};
 
 // Where each buffer begins.
 const TABLE: usize = 32;
@@ -34,7 +35,22 @@ const FINDINGS: usize = 20252;
 
 const WORK: usize = 20752;
 
-const LOAD: usize = 20952;
+pub const LOAD: usize = 20952;
+
+// How many cells a buffer has.
+const TABLE_ROOM: usize = 320;
+
+const ARENA_ROOM: usize = 9600;
+
+const TERM_ROOM: usize = 4100;
+
+const STORE_ROOM: usize = 2100;
+
+const FINDINGS_ROOM: usize = 500;
+
+const WORK_ROOM: usize = 200;
+
+pub const LOAD_ROOM: usize = 49160;
 
 // Lengths, arguments and results.
 const TABLE_LENGTH: usize = 0;
@@ -72,7 +88,7 @@ const COUNT: usize = 15;
 const COUNTS: usize = 16;
 
 fn counters_in(memory: &[u32]) -> Counters
-    ensures { λ r. ⌜ r ≡ record { terms = getD (now (memory .entry)) 9 0; used = getD (now (memory .entry)) 10 0 } ⌝ }
+    ensures { λ r. ⌜ r ≡ record { terms = getD (now (memory .entry)) terms-cell 0; used = getD (now (memory .entry)) used-cell 0 } ⌝ }
 {
     Counters {
         terms: cell(memory, TERMS),
@@ -114,9 +130,10 @@ fn put_term(memory: &mut [u32], table: &mut [u32], arena: &mut [u8], term: &[u8]
 
 fn make_put(memory: &mut [u32], table: &mut [u32], arena: &mut [u8])
     ensures { λ _. ⌜ held (now (memory .exit)) (now (table .exit)) (now (arena .exit))
-        ≡ put-made (held (now (memory .entry)) (now (table .entry)) (now (arena .entry))) (bytes-from (now (memory .entry)) 9952 4100) ⌝ }
+        ≡ put-made (held (now (memory .entry)) (now (table .entry)) (now (arena .entry)))
+        (bytes-from (now (memory .entry)) term-cells term-room) ⌝ }
 {
-    let mut term = [0u8; 4100];
+    let mut term = [0u8; TERM_ROOM];
     take_bytes(&*memory, TERM, &mut term);
     put_term(memory, table, arena, &term);
 }
@@ -149,7 +166,8 @@ fn make_lookup(memory: &mut [u32], table: &[u32], arena: &[u8])
 
 fn answer_run(memory: &mut [u32], got: RunAnswer, counters: Counters)
     ensures { λ _. ⌜ now (memory .exit)
-        ≡ answered (give (set (now (memory .entry)) 15 (got .count)) 16 (got .counts)) (got .number) (counters .terms) (counters .used) ⌝ }
+        ≡ answered (give (set (now (memory .entry)) count-cell (got .count)) counts-cells (got .counts)) (got .number)
+        (counters .terms) (counters .used) ⌝ }
 {
     let counts = got.counts;
     set_cell(&mut *memory, COUNT, got.count);
@@ -221,7 +239,7 @@ fn run_loaded(
         ≡ run-taken (held (now (memory .entry)) (now (table .entry)) (now (arena .entry))) (length (now (store .entry)))
         (length (now (findings .entry))) (length (now (work .entry))) ⌝ }
 {
-    let mut load = [0u32; 49160];
+    let mut load = [0u32; LOAD_ROOM];
     take_numbers(&*memory, LOAD, &mut load);
     take_numbers(&*memory, STORE, &mut *store);
     take_numbers(&*memory, FINDINGS, &mut *findings);
@@ -233,9 +251,9 @@ fn make_run(memory: &mut [u32], table: &mut [u32], arena: &mut [u8])
     ensures { λ _. ⌜ held (now (memory .exit)) (now (table .exit)) (now (arena .exit))
         ≡ run-made (held (now (memory .entry)) (now (table .entry)) (now (arena .entry))) ⌝ }
 {
-    let mut store = [0u32; 2100];
-    let mut findings = [0u32; 500];
-    let mut work = [0u32; 200];
+    let mut store = [0u32; STORE_ROOM];
+    let mut findings = [0u32; FINDINGS_ROOM];
+    let mut work = [0u32; WORK_ROOM];
     run_loaded(
         &mut *memory,
         table,
@@ -285,8 +303,8 @@ fn make_lent(call: u32, memory: &mut [u32], table: &mut [u32], arena: &mut [u8])
 pub fn make(call: u32, memory: &mut [u32])
     ensures { λ _. ⌜ now (memory .exit) ≡ made call (now (memory .entry)) ⌝ }
 {
-    let mut table = [0u32; 320];
-    let mut arena = [0u8; 9600];
+    let mut table = [0u32; TABLE_ROOM];
+    let mut arena = [0u8; ARENA_ROOM];
     take_numbers(&*memory, TABLE, &mut table);
     take_bytes(&*memory, ARENA, &mut arena);
     make_lent(call, &mut *memory, &mut table, &mut arena);

@@ -1,5 +1,6 @@
 // A line of the text: what it does to the memories, and what it shows.
 use crate::calls::make;
+use dictionary_layout::bytes::same_numbers;
 use trial_buffers::memory::fill;
 use trial_buffers::memory::take_numbers;
 use trial_buffers::reader::Cursor;
@@ -7,12 +8,11 @@ use trial_buffers::reader::Read;
 use trial_buffers::reader::both;
 use trial_buffers::reader::read_number;
 use trial_buffers::reader::read_row;
-use trial_buffers::same;
 ghost use mathlib.Core.Path.{_≡_};
 ghost use mathlib.Core.Bool.{true};
 ghost use Prim.Native.Nat.{_≤_};
-ghost use Rattle.trial_replay.specs.Text.{cells-from, span-from, edited, written, filled, edits, edited-by, one-if, difference, called};
-ghost use Rattle.trial_replay.specs.Text.{call-made, memories, kept-by, played, quiet-turn, line-played};
+ghost use Rattle.trial_replay.specs.Text.{cells-from, span-from, edited, written, filled, edits, edited-by, one-if, difference};
+ghost use Rattle.trial_replay.specs.Text.{called, call-made, memories, kept-by, played, quiet-turn, line-played};
 
 // What a line showed: calls and differences, and the place after it, if it could be read.
 pub struct Turn {
@@ -133,7 +133,7 @@ fn call(text: &[u8], at: usize, memory: &mut [u32], expected: &[u32]) -> Turn
     let number = read_number(text, at);
     let differs = read_number(text, number.at);
     make(number.value, &mut *memory);
-    let agrees = same(&*memory, expected);
+    let agrees = same_numbers(&*memory, expected);
     Turn {
         at: differs.at,
         ok: both(number.ok, differs.ok),

@@ -1,8 +1,10 @@
-// Plays a text of calls with what each must give: crates/replay/stdin. README.md has its format, and how it was made.
+// Plays a text of calls with what each must give: crates/trial_replay/stdin. README.md has its format, and how it was made.
 mod calls; // calls.rt: the four calls on a memory
 mod lines; // lines.rt: a line of the text
 mod report; // report.rt: what is printed
 
+use calls::LOAD;
+use calls::LOAD_ROOM;
 use lines::Turn;
 use lines::play_line;
 use report::Tally;
@@ -10,14 +12,13 @@ use report::end_list;
 use report::no_calls;
 use report::print_difference;
 use report::print_unreadable;
-use trial_buffers::reader::Read;
 use trial_buffers::reader::read_number;
 
-// The cells of a memory.
-const CELLS: usize = 70112;
+// The cells of a memory: those of the load are the last.
+const CELLS: usize = LOAD + LOAD_ROOM;
 
 // The cells before those of the load, which are not saved.
-const SAVED: usize = 20952;
+const SAVED: usize = LOAD;
 
 // Room for the text.
 const TEXT: usize = 520000;

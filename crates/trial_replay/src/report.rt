@@ -7,10 +7,10 @@ ghost use mathlib.Core.Path.{_≡_};
 ghost use Prim.Native.Nat.{_+_, _%_, _^_};
 ghost use lib.ListN.{length};
 ghost use Rattle.trial_buffers.specs.Reading.{cursor-after, is-byte};
-ghost use Rattle.trial_replay.specs.Text.{list-end};
+ghost use Rattle.trial_replay.specs.Text.{name-limit, list-end};
 
 // The longest name of a list.
-const NAME: usize = 60;
+const NAME_LIMIT: usize = 60;
 
 // What a list has shown so far.
 pub struct Tally {
@@ -89,8 +89,8 @@ fn end_in(text: &[u8], at: usize, room: &mut [u8], tally: Tally) -> Cursor
 
 // The line that ends a list: its name, and what it showed.
 pub fn end_list(text: &[u8], at: usize, tally: Tally) -> Cursor
-    ensures { λ r. ⌜ r ≡ list-end (now (text .entry)) at 60 ⌝ }
+    ensures { λ r. ⌜ r ≡ list-end (now (text .entry)) at name-limit ⌝ }
 {
-    let mut room = [0u8; NAME];
+    let mut room = [0u8; NAME_LIMIT];
     end_in(text, at, &mut room, tally)
 }

@@ -1,7 +1,10 @@
 // What the measurements of crates rows and sort link: the sort, and appending with repeats. The harness is harness/rows_bench.
+use common::FINDING_WIDTH;
+use common::STORE_WIDTH;
 use store_rows::add;
 use store_rows::row;
 use store_sort::sort_rows;
+ghost use Rattle.common.specs.Sizes.{store-width, finding-width};
 ghost use Rattle.store_rows.specs.Store.{Good};
 ghost use Rattle.store_sort.specs.Sorted.{Fits, Sorted};
 ghost use Rattle.trial_rows_bench.specs.Load.{Load, Appended};
@@ -9,19 +12,19 @@ ghost use Rattle.trial_rows_bench.specs.Load.{Load, Appended};
 // Rows of the store.
 #[no_mangle]
 pub extern "C" fn rows_bench_sort_triples(buf: &mut [u32], n: usize)
-    requires { ⌜ Fits 3 n (now buf) ⌝ }
-    ensures { λ _. ⌜ Sorted 3 n (now (buf .entry)) (now (buf .exit)) ⌝ }
+    requires { ⌜ Fits store-width n (now buf) ⌝ }
+    ensures { λ _. ⌜ Sorted store-width n (now (buf .entry)) (now (buf .exit)) ⌝ }
 {
-    sort_rows(&mut *buf, 3, n);
+    sort_rows(&mut *buf, STORE_WIDTH, n);
 }
 
-// Rows of five numbers, as findings have them.
+// Rows of findings.
 #[no_mangle]
 pub extern "C" fn rows_bench_sort_findings(buf: &mut [u32], n: usize)
-    requires { ⌜ Fits 5 n (now buf) ⌝ }
-    ensures { λ _. ⌜ Sorted 5 n (now (buf .entry)) (now (buf .exit)) ⌝ }
+    requires { ⌜ Fits finding-width n (now buf) ⌝ }
+    ensures { λ _. ⌜ Sorted finding-width n (now (buf .entry)) (now (buf .exit)) ⌝ }
 {
-    sort_rows(&mut *buf, 5, n);
+    sort_rows(&mut *buf, FINDING_WIDTH, n);
 }
 
 // Appends the rows of the load to a store of no rows, and answers how many it has then.

@@ -11,7 +11,9 @@ part-requires : tie.Need-part-requires
 part-requires c κs = search needs
 
 returns : tie.Need-returns
-returns c = looked-up (c .before .before .before .find-part .ensures) (c .part .ensures .0) (c .part .ensures .1)
+returns c =
+    let after-find-part = c .before .before .before in
+    looked-up (after-find-part .find-part .ensures) (c .part .ensures .0) (c .part .ensures .1)
 
 pub lookup-spec : {M : Type 1} → statement M
 lookup-spec = tie.close (tie.spec find-part-requires part-requires returns)

@@ -31,8 +31,8 @@ same-length-2 c = search needs
 returns : tie.Need-returns
 returns c = search needs
 
-refused-requires : tie.Need-refused-requires
-refused-requires c κs = search needs
+refused-put-requires : tie.Need-refused-put-requires
+refused-put-requires c κs = search needs
 
 same-length-3 : tie.Need-same-length-3
 same-length-3 c = search needs
@@ -45,7 +45,7 @@ returns-2 c =
     let after-is-valid = c .before .before in
     let z = after-is-valid .before .before .before .before .before .before in
     let d = contents (z .args .table .now) (z .args .arena .now) (z .args .counters) in
-    ap (λ (r : PutNext). put-left r (z .args .table .now) (z .args .arena .now)) (c .refused .ensures)
+    ap (λ (r : PutNext). put-left r (z .args .table .now) (z .args .arena .now)) (c .refused-put .ensures)
     ∙ sym (put-broken d (term (z .args .kind) (z .args .bytes .now))
     (false→not-T (valid d) (sym (c .before .if1 .left) ∙ after-is-valid .is-valid .ensures)))
 
@@ -58,7 +58,7 @@ put-by-value-spec =
     same-length
     same-length-2
     returns
-    refused-requires
+    refused-put-requires
     same-length-3
     same-length-4
     returns-2)

@@ -7,15 +7,15 @@ use Rattle.dictionary_entries.proofs.Starting.{blank-cleared, start-done}
 use Rattle.dictionary_index.proofs.start.Statement.{statement}
 use Rattle.dictionary_index.proofs.start.Tie as tie
 
-refusal-requires : tie.Need-refusal-requires
-refusal-requires c κs = search needs
+start-refusal-requires : tie.Need-start-refusal-requires
+start-refusal-requires c κs = search needs
 
 returns : tie.Need-returns
 returns c =
-    let after-refusal = c .before in
-    let at-start = after-refusal .before .before .before in
-    start-refuses (at-start .args .table .now) (at-start .args .arena .now) (after-refusal .refusal .result)
-    (after-refusal .refusal .ensures) (c .if1 .taken)
+    let after-start-refusal = c .before in
+    let at-start = after-start-refusal .before .before .before in
+    start-refuses (at-start .args .table .now) (at-start .args .arena .now) (after-start-refusal .start-refusal .result)
+    (after-start-refusal .start-refusal .ensures) (c .if1 .taken)
 
 clear-numbers-requires : tie.Need-clear-numbers-requires
 clear-numbers-requires c κs = search needs
@@ -28,10 +28,10 @@ enter-all-requires c κs =
     let after-clear-bytes = c .before .before .before .before in
     let after-clear-numbers = after-clear-bytes .before .before .before .before in
     let at-if1 = after-clear-numbers .before .before in
-    let after-refusal = at-if1 .before in
-    let at-start = after-refusal .before .before .before in
+    let after-start-refusal = at-if1 .before in
+    let at-start = after-start-refusal .before .before .before in
     blank-cleared (length (at-start .args .table .now)) (length (at-start .args .arena .now))
-    (sym (after-refusal .refusal .ensures) ∙ at-if1 .if1 .left) (after-clear-numbers .clear-numbers .ensures)
+    (sym (after-start-refusal .start-refusal .ensures) ∙ at-if1 .if1 .left) (after-clear-numbers .clear-numbers .ensures)
     (after-clear-bytes .clear-bytes .ensures)
 
 same-length : tie.Need-same-length
@@ -46,17 +46,17 @@ returns-2 c =
     let after-clear-bytes = after-enter-all .before .before .before .before .before in
     let after-clear-numbers = after-clear-bytes .before .before .before .before in
     let at-if1 = after-clear-numbers .before .before in
-    let after-refusal = at-if1 .before in
-    let at-start = after-refusal .before .before .before in
+    let after-start-refusal = at-if1 .before in
+    let at-start = after-start-refusal .before .before .before in
     start-done (at-start .args .table .now) (at-start .args .arena .now)
-    (sym (after-refusal .refusal .ensures) ∙ at-if1 .if1 .left) (after-clear-numbers .clear-numbers .kept .0)
+    (sym (after-start-refusal .start-refusal .ensures) ∙ at-if1 .if1 .left) (after-clear-numbers .clear-numbers .kept .0)
     (after-clear-bytes .clear-bytes .kept .0) (after-enter-all .enter-all .ensures)
 
 pub start-spec : {M : Type 1} → statement M
 start-spec =
     tie.close
     (tie.spec
-    refusal-requires
+    start-refusal-requires
     returns
     clear-numbers-requires
     clear-bytes-requires

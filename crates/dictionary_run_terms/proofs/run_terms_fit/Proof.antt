@@ -6,7 +6,8 @@ use lib.Dec.{lit≤}
 use Rattle.dictionary_layout.specs.Terms.{property-term, membership-term, member-term}
 use Rattle.dictionary_layout.specs.Layout.{decode}
 use Rattle.dictionary_layout.specs.Values.{contents}
-use Rattle.dictionary_run_terms.proofs.Running.{countable, counted-one, counted-two, counted-three, run-no-entry, run-by-bytes}
+use Rattle.dictionary_run_terms.proofs.Counting.{countable, counted-one, counted-two, counted-three}
+use Rattle.dictionary_run_terms.proofs.Fitting.{run-no-entry, run-by-bytes}
 use Rattle.dictionary_run_terms.proofs.run_terms_fit.Statement.{statement}
 use Rattle.dictionary_run_terms.proofs.run_terms_fit.Tie as tie
 

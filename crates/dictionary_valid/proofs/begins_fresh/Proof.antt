@@ -2,7 +2,7 @@
 use mathlib.Core.Path.{sym, _∙_}
 use native.Mathlib.Omega.{arith}
 use borrow.Author.Needs.{needs}
-use Rattle.dictionary_valid.proofs.Validity.{begins-other-entries, begins-by-bytes, fresh-room}
+use Rattle.dictionary_valid.proofs.Beginning.{begins-other-entries, begins-by-bytes, fresh-room}
 use Rattle.dictionary_valid.proofs.begins_fresh.Statement.{statement}
 use Rattle.dictionary_valid.proofs.begins_fresh.Tie as tie
 
@@ -13,7 +13,9 @@ part-same-numbers-start : tie.Need-part-same-numbers-start
 part-same-numbers-start c = search needs
 
 part-same-numbers-end : tie.Need-part-same-numbers-end
-part-same-numbers-end c = omega (arith, fresh-room (c .before .before .before .before .pre))
+part-same-numbers-end c =
+    let at-start = c .before .before .before .before in
+    omega (arith, fresh-room (at-start .pre))
 
 sub-same-numbers-2 : tie.Need-sub-same-numbers-2
 sub-same-numbers-2 c = search needs
@@ -22,7 +24,9 @@ part-same-numbers-start-2 : tie.Need-part-same-numbers-start-2
 part-same-numbers-start-2 c = search needs
 
 part-same-numbers-end-2 : tie.Need-part-same-numbers-end-2
-part-same-numbers-end-2 c = omega (arith, fresh-room (c .before .before .before .before .before .pre))
+part-same-numbers-end-2 c =
+    let at-start = c .before .before .before .before .before in
+    omega (arith, fresh-room (at-start .pre))
 
 same-numbers-requires : tie.Need-same-numbers-requires
 same-numbers-requires c κs = search needs
@@ -34,7 +38,9 @@ part-same-bytes-start : tie.Need-part-same-bytes-start
 part-same-bytes-start c = search needs
 
 part-same-bytes-end : tie.Need-part-same-bytes-end
-part-same-bytes-end c = omega (arith, fresh-room (c .before .before .before .before .before .before .before .before .pre))
+part-same-bytes-end c =
+    let at-start = c .before .before .before .before .before .before .before .before in
+    omega (arith, fresh-room (at-start .pre))
 
 same-bytes-requires : tie.Need-same-bytes-requires
 same-bytes-requires c κs = search needs

@@ -27,7 +27,6 @@ part-same-numbers-end : tie.Need-part-same-numbers-end
 part-same-numbers-end c =
     let z = c .before .before .before .before .before in
     let s = z .pre .0 in
-    let u = z .args .counters .used in
     omega (arith, scanned-room s .0)
 
 sub-same-numbers-2 : tie.Need-sub-same-numbers-2
@@ -58,14 +57,12 @@ sub-zero-numbers : tie.Need-sub-zero-numbers
 sub-zero-numbers c =
     let z = c .before .before .before .before .before .before .before .before .before .before in
     let s = z .pre .0 in
-    let u = z .args .counters .used in
     omega (arith, scanned-room s .0)
 
 part-zero-numbers-start : tie.Need-part-zero-numbers-start
 part-zero-numbers-start c =
     let z = c .before .before .before .before .before .before .before .before .before .before in
     let s = z .pre .0 in
-    let u = z .args .counters .used in
     omega (arith, scanned-room s .0)
 
 part-zero-numbers-end : tie.Need-part-zero-numbers-end
@@ -78,14 +75,12 @@ sub-zero-bytes : tie.Need-sub-zero-bytes
 sub-zero-bytes c =
     let z = c .before .before .before .before .before .before .before .before .before .before .before .before .before in
     let s = z .pre .0 in
-    let u = z .args .counters .used in
     omega (arith, scanned-room s .1)
 
 part-zero-bytes-start : tie.Need-part-zero-bytes-start
 part-zero-bytes-start c =
     let z = c .before .before .before .before .before .before .before .before .before .before .before .before .before in
     let s = z .pre .0 in
-    let u = z .args .counters .used in
     omega (arith, scanned-room s .1)
 
 part-zero-bytes-end : tie.Need-part-zero-bytes-end

@@ -1,15 +1,14 @@
 -- `dictionary_valid::hash_start` meets its contract. Assumes nothing.
 use mathlib.Core.Path.{_≡_, sym, _∙_, subst}
-use Prim.Native.Nat.{_+_, _*_, _-_}
+use Prim.Native.Nat.{_+_, _-_}
 use native.Mathlib.Omega.{arith}
-use lib.ListN.{take, drop, length-take}
-use Rattle.dictionary_layout.specs.Terms.{term}
-use Rattle.dictionary_layout.specs.Layout.{heads}
-use Rattle.dictionary_entries.specs.Entries.{start-of, length-of, kind-of}
+use Rattle.dictionary_layout.specs.Terms.{start-count}
+use Rattle.dictionary_layout.specs.Layout.{heads, entry-at}
+use Rattle.dictionary_entries.specs.Entries.{start-of}
 use Rattle.dictionary_valid.specs.Scanning.{Hashed}
 use Rattle.dictionary_layout.proofs.Digests.{digest-bucket}
 use Rattle.dictionary_valid.proofs.Scanning.{scanned-room, scanned-limits, scanned-fits, scanned-short}
-use Rattle.dictionary_valid.proofs.Checking.{own-part, Entered, entered-more}
+use Rattle.dictionary_valid.proofs.Checking.{read-term, read-short, Entered, entered-more}
 use Rattle.dictionary_valid.proofs.hash_start.Statement.{statement}
 use Rattle.dictionary_valid.proofs.hash_start.Tie as tie
 
@@ -17,10 +16,12 @@ abbrev Inv-loop : tie.InvT-loop
 Inv-loop table arena hash₀ heads k₀ hash k = Entered table arena hash k
 
 abbrev μ-loop : tie.MeasureT-loop
-μ-loop table arena hash₀ heads k₀ hash k = 31 - k
+μ-loop table arena hash₀ heads k₀ hash k = start-count - k
 
 loop-holds : tie.Need-loop-holds Inv-loop μ-loop
-loop-holds c = record { within = omega arith; hashed = c .before .before .before .before .pre .1 }
+loop-holds c =
+    let at-start = c .before .before .before .before in
+    record { within = omega arith; hashed = at-start .pre .1 }
 
 mul-entry : tie.Need-mul-entry Inv-loop μ-loop
 mul-entry c = omega arith
@@ -33,12 +34,11 @@ mul-start c = omega arith
 
 shared-slice-read-start : tie.Need-shared-slice-read-start Inv-loop μ-loop
 shared-slice-read-start c =
-    let z = c .before .before .before .before .before .before .before in
-    let s = z .pre .0 in
-    omega (arith, scanned-room s .0)
+    let at-start = c .before .before .before .before .before .before .before in
+    omega (arith, scanned-room (at-start .pre .0) .0)
 
 cast-start : tie.Need-cast-start Inv-loop μ-loop
-cast-start c = omega (arith, c .shared-slice-known4 .given (64 + 4 * c .before .before .loop .k))
+cast-start c = omega (arith, c .shared-slice-known4 .given (entry-at (c .before .before .loop .k)))
 
 add-end : tie.Need-add-end Inv-loop μ-loop
 add-end c = omega arith
@@ -48,12 +48,13 @@ mul-end c = omega arith
 
 shared-slice-read-end : tie.Need-shared-slice-read-end Inv-loop μ-loop
 shared-slice-read-end c =
-    let z = c .before .before .before .before .before .before .before .before in
-    let s = z .pre .0 in
-    omega (arith, scanned-room s .0)
+    let at-start = c .before .before .before .before .before .before .before .before in
+    omega (arith, scanned-room (at-start .pre .0) .0)
 
 cast-end : tie.Need-cast-end Inv-loop μ-loop
-cast-end c = omega (arith, c .shared-slice-known5 .given (64 + 4 * c .before .before .before .loop .k + 1))
+cast-end c =
+    let at-loop = c .before .before .before in
+    omega (arith, c .shared-slice-known5 .given (entry-at (at-loop .loop .k) + 1))
 
 add-end-2 : tie.Need-add-end-2 Inv-loop μ-loop
 add-end-2 c =
@@ -71,9 +72,8 @@ mul-digest c = omega arith
 
 shared-slice-read-digest : tie.Need-shared-slice-read-digest Inv-loop μ-loop
 shared-slice-read-digest c =
-    let z = c .before .before .before .before .before .before .before .before .before in
-    let s = z .pre .0 in
-    omega (arith, scanned-room s .0)
+    let at-start = c .before .before .before .before .before .before .before .before .before in
+    omega (arith, scanned-room (at-start .pre .0) .0)
 
 sub-digest : tie.Need-sub-digest Inv-loop μ-loop
 sub-digest c = omega arith
@@ -94,28 +94,22 @@ digest-requires c κs =
     let at-loop-test = c .before .before .before .before in
     let at-loop = at-loop-test .before in
     let k = at-loop .loop .k in
-    let z = at-loop .before .before .before .before .before in
-    let s = z .pre .0 in
-    let a = z .args .arena .now in
-    let t = z .args .table .now in
-    omega (
-      arith,
-      scanned-short s k (at-loop-test .loop-test .taken),
-      length-take (start-of t k + length-of t k - start-of t k) (drop (start-of t k) a),
-    )
+    let at-start = at-loop .before .before .before .before .before in
+    let args = at-start .args in
+    read-short (args .table .now) (args .arena .now) k (start-of (args .table .now) k)
+    (scanned-short (at-start .pre .0) k (at-loop-test .loop-test .taken))
 
-link-requires : tie.Need-link-requires Inv-loop μ-loop
-link-requires c κs =
+hash-entry-requires : tie.Need-hash-entry-requires Inv-loop μ-loop
+hash-entry-requires c κs =
     let after-shared-slice-known6 = c .before .before .before in
     let at-loop = after-shared-slice-known6 .before .before .before .before in
     let k = at-loop .loop .k in
     let z = at-loop .before .before .before .before .before in
-    let s = z .pre .0 in
     let a = z .args .arena .now in
     let t = z .args .table .now in (
       at-loop .loop .inv .hashed .wide,
-      digest-bucket (term (kind-of t k) (take (start-of t k + length-of t k - start-of t k) (drop (start-of t k) a)))
-          (omega (arith, after-shared-slice-known6 .shared-slice-known6 .given (64 + 4 * k + 2))) (c .before .digest .ensures),
+      digest-bucket (read-term t a k (start-of t k))
+          (omega (arith, after-shared-slice-known6 .shared-slice-known6 .given (entry-at k + 2))) (c .before .digest .ensures),
       omega arith,
     )
 
@@ -127,30 +121,26 @@ loop-less c = omega arith
 
 loop-again : tie.Need-loop-again Inv-loop μ-loop
 loop-again c =
-    let after-link = c .before .before in
-    let after-digest = after-link .before .before in
+    let after-hash-entry = c .before .before in
+    let after-digest = after-hash-entry .before .before in
     let after-shared-slice-known6 = after-digest .before .before in
     let at-loop-test = after-shared-slice-known6 .before .before .before in
     let at-loop = at-loop-test .before in
-    let k = at-loop .loop .k in
-    let z = at-loop .before .before .before .before .before in
-    let s = z .pre .0 in
-    let a = z .args .arena .now in
-    let t = z .args .table .now in
-    entered-more (term (kind-of t k) (take (start-of t k + length-of t k - start-of t k) (drop (start-of t k) a)))
-    (after-digest .digest .result) (at-loop .loop .inv) (at-loop-test .loop-test .taken)
-    (omega (arith, after-shared-slice-known6 .shared-slice-known6 .given (64 + 4 * k + 2))) (own-part t a k)
-    (after-digest .digest .ensures) (after-link .link .ensures)
+    let given = after-shared-slice-known6 .shared-slice-known6 .given in
+    entered-more (at-loop .loop .inv) (at-loop-test .loop-test .taken) (omega (arith, given (entry-at (at-loop .loop .k) + 2)))
+    (after-digest .digest .ensures) (after-hash-entry .hash-entry .ensures)
 
 same-length : tie.Need-same-length Inv-loop μ-loop
-same-length c = c .before .loop .inv .hashed .wide ∙ sym (c .before .before .before .before .before .before .pre .1 .wide)
+same-length c =
+    let at-start = c .before .before .before .before .before .before in
+    c .before .loop .inv .hashed .wide ∙ sym (at-start .pre .1 .wide)
 
 returns : tie.Need-returns Inv-loop μ-loop
 returns c =
     let at-loop = c .before in
     let loop = at-loop .loop in
     let at-start = at-loop .before .before .before .before .before in
-    let q : loop .k ≡ 31 = omega (arith, loop .inv .within) in
+    let q : loop .k ≡ start-count = omega (arith, loop .inv .within) in
     subst (Hashed (at-start .args .table .now) (at-start .args .arena .now) (loop .hash)) q (loop .inv .hashed)
 
 pub hash-start-spec : {M : Type 1} → statement M
@@ -177,7 +167,7 @@ hash-start-spec =
     part-digest-start
     part-digest-end
     digest-requires
-    link-requires
+    hash-entry-requires
     add-k
     loop-less
     loop-again

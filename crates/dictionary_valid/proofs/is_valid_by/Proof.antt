@@ -7,21 +7,22 @@ use Rattle.dictionary_layout.specs.Dictionary.{valid}
 use Rattle.dictionary_layout.specs.Values.{contents}
 use Rattle.dictionary_layout.proofs.Choice.{is-false}
 use Rattle.dictionary_valid.proofs.Hashing.{hashed-none}
-use Rattle.dictionary_valid.proofs.Validity.{blank-fresh, other-sizes, few-terms, many-terms}
+use Rattle.dictionary_valid.proofs.Beginning.{blank-fresh}
+use Rattle.dictionary_valid.proofs.Validity.{other-sizes, few-terms, many-terms}
 use Rattle.dictionary_valid.proofs.is_valid_by.Statement.{statement}
 use Rattle.dictionary_valid.proofs.is_valid_by.Tie as tie
 
 cast-terms : tie.Need-cast-terms
 cast-terms c = search needs
 
-refusal-requires : tie.Need-refusal-requires
-refusal-requires c κs = search needs
+start-refusal-requires : tie.Need-start-refusal-requires
+start-refusal-requires c κs = search needs
 
 returns : tie.Need-returns
 returns c =
     let z = c .before .before .before .before .before .before in
     let d = contents (z .args .table .now) (z .args .arena .now) (z .args .counters) in
-    other-sizes d (c .before .refusal .ensures) (c .if1 .taken)
+    other-sizes d (c .before .start-refusal .ensures) (c .if1 .taken)
 
 returns-2 : tie.Need-returns-2
 returns-2 c =
@@ -60,9 +61,9 @@ begins-fresh-requires : tie.Need-begins-fresh-requires
 begins-fresh-requires c κs =
     let after-enter-all = c .before .before .before .before in
     let at-if1 = after-enter-all .before .before .before .before .before in
-    let after-refusal = at-if1 .before in
+    let after-start-refusal = at-if1 .before in
     record {
-      accepted = sym (after-refusal .refusal .ensures) ∙ at-if1 .if1 .left;
+      accepted = sym (after-start-refusal .start-refusal .ensures) ∙ at-if1 .if1 .left;
       entries = ap (λ (x : Dict). x .table) (after-enter-all .enter-all .ensures);
       bytes = ap (λ (x : Dict). x .arena) (after-enter-all .enter-all .ensures);
     }
@@ -138,7 +139,7 @@ is-valid-by-spec =
     tie.close
     (tie.spec
     cast-terms
-    refusal-requires
+    start-refusal-requires
     returns
     returns-2
     mul-if3

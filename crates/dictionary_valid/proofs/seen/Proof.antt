@@ -1,11 +1,8 @@
 -- `dictionary_valid::seen` meets its contract. Assumes nothing.
-use mathlib.Core.Path.{sym, _∙_}
 use Prim.Native.Nat.{_+_, _-_}
 use native.Mathlib.Omega.{arith}
 use Rattle.dictionary_layout.specs.Terms.{term}
-use Rattle.dictionary_entries.specs.Entries.{entry-term}
-use Rattle.dictionary_layout.specs.Digest.{bucket}
-use Rattle.dictionary_entries.proofs.Finding.{same-term-found, other-term-found}
+use Rattle.dictionary_layout.specs.Digest.{bucket, bucket-count}
 use Rattle.dictionary_valid.proofs.Hashing.{Seeking, seek-start, seek-fits, seek-less, seek-more, seek-hit, seek-end}
 use Rattle.dictionary_valid.proofs.seen.Statement.{statement}
 use Rattle.dictionary_valid.proofs.seen.Tie as tie
@@ -17,7 +14,9 @@ abbrev μ-loop : tie.MeasureT-loop
 μ-loop table arena hash k kind bytes bucket cur₀ cur = cur
 
 mul-cur : tie.Need-mul-cur Inv-loop μ-loop
-mul-cur c = omega (arith, c .before .before .before .before .pre .below)
+mul-cur c =
+    let at-start = c .before .before .before .before in
+    omega (arith, at-start .pre .below)
 
 shared-slice-read-cur : tie.Need-shared-slice-read-cur Inv-loop μ-loop
 shared-slice-read-cur c =
@@ -25,10 +24,14 @@ shared-slice-read-cur c =
     omega (arith, at-start .pre .below, at-start .pre .hashed .wide)
 
 cast-cur : tie.Need-cast-cur Inv-loop μ-loop
-cast-cur c = omega (arith, c .shared-slice-known5 .given (c .before .before .before .before .before .args .bucket))
+cast-cur c =
+    let at-start = c .before .before .before .before .before in
+    omega (arith, c .shared-slice-known5 .given (at-start .args .bucket))
 
 loop-holds : tie.Need-loop-holds Inv-loop μ-loop
-loop-holds c = seek-start (c .before .before .before .before .before .pre)
+loop-holds c =
+    let at-start = c .before .before .before .before .before in
+    seek-start (at-start .pre)
 
 sub-names : tie.Need-sub-names Inv-loop μ-loop
 sub-names c = omega arith
@@ -43,10 +46,7 @@ returns c =
     let at-loop-test = c .before .before in
     let at-loop = at-loop-test .before in
     let at-start = at-loop .before .before .before .before .before .before in
-    let args = at-start .args in
-    seek-hit (at-start .pre) (at-loop .loop .inv) (at-loop-test .loop-test .taken)
-    (same-term-found (entry-term (args .table .now) (args .arena .now) (at-loop .loop .cur - 1)) (term (args .kind) (args .bytes .now))
-    (sym (c .if1 .taken) ∙ c .before .names .ensures))
+    seek-hit (at-start .pre) (at-loop .loop .inv) (at-loop-test .loop-test .taken) (c .before .names .ensures) (c .if1 .taken)
 
 sub-cur : tie.Need-sub-cur Inv-loop μ-loop
 sub-cur c = omega arith
@@ -70,7 +70,9 @@ shared-slice-read-cur-2 c =
     omega (arith, at-loop .loop .inv .below, at-start .pre .few, at-start .pre .hashed .wide)
 
 cast-cur-2 : tie.Need-cast-cur-2 Inv-loop μ-loop
-cast-cur-2 c = omega (arith, c .shared-slice-known6 .given (65536 + (c .before .before .before .before .loop .cur - 1)))
+cast-cur-2 c =
+    let at-loop = c .before .before .before .before in
+    omega (arith, c .shared-slice-known6 .given (bucket-count + (at-loop .loop .cur - 1)))
 
 loop-less : tie.Need-loop-less Inv-loop μ-loop
 loop-less c =
@@ -85,10 +87,8 @@ loop-again c =
     let at-loop-test = after-names .before in
     let at-loop = at-loop-test .before in
     let at-start = at-loop .before .before .before .before .before .before in
-    let args = at-start .args in
-    seek-more (at-start .pre) (at-loop .loop .inv) (at-loop-test .loop-test .taken)
-    (other-term-found (entry-term (args .table .now) (args .arena .now) (at-loop .loop .cur - 1)) (term (args .kind) (args .bytes .now))
-    (sym (c .before .if1 .left) ∙ after-names .names .ensures))
+    seek-more (at-start .pre) (at-loop .loop .inv) (at-loop-test .loop-test .taken) (after-names .names .ensures)
+    (c .before .if1 .left)
 
 returns-2 : tie.Need-returns-2 Inv-loop μ-loop
 returns-2 c =

@@ -2,57 +2,45 @@
 use mathlib.Core.Path.{sym}
 use Prim.Native.Nat.{ℕ}
 use lib.ListN.{length-replicate}
+use Rattle.common.specs.Sizes.{table-limit}
+use Rattle.edge_c.specs.Forwarded.{longest-store, longest-findings, longest-work, load-array}
+use borrow.Author.Needs.{needs}
 use Rattle.edge_c.proofs.Forwarding.{arrays}
 use Rattle.edge_c.proofs.tablestork_run.Statement.{statement}
 use Rattle.edge_c.proofs.tablestork_run.Tie as tie
 
 slice-aggregate-run-in : tie.Need-slice-aggregate-run-in
-slice-aggregate-run-in c = sym (length-replicate {A = ℕ} 262204 0)
+slice-aggregate-run-in c = sym (length-replicate {A = ℕ} table-limit 0)
 
 slice-aggregate-run-in-2 : tie.Need-slice-aggregate-run-in-2
-slice-aggregate-run-in-2 c = sym (length-replicate {A = ℕ} 49157 0)
+slice-aggregate-run-in-2 c = sym (length-replicate {A = ℕ} load-array 0)
 
 slice-aggregate-run-in-3 : tie.Need-slice-aggregate-run-in-3
-slice-aggregate-run-in-3 c = sym (length-replicate {A = ℕ} 196605 0)
+slice-aggregate-run-in-3 c = sym (length-replicate {A = ℕ} longest-store 0)
 
 slice-aggregate-run-in-4 : tie.Need-slice-aggregate-run-in-4
-slice-aggregate-run-in-4 c = sym (length-replicate {A = ℕ} 327675 0)
+slice-aggregate-run-in-4 c = sym (length-replicate {A = ℕ} longest-findings 0)
 
 slice-aggregate-run-in-5 : tie.Need-slice-aggregate-run-in-5
-slice-aggregate-run-in-5 c = sym (length-replicate {A = ℕ} 131076 0)
+slice-aggregate-run-in-5 c = sym (length-replicate {A = ℕ} longest-work 0)
 
 run-in-requires : tie.Need-run-in-requires
 run-in-requires c κs = arrays
 
 same-length : tie.Need-same-length
-same-length c =
-    let after-run-in = c .before .before .before .before .before .before .before .before .before .before .before .before .before
-    .before .before .before in
-    after-run-in .run-in .kept .1 .1 .1 .1 .1 .0
+same-length c = search needs
 
 same-length-2 : tie.Need-same-length-2
-same-length-2 c =
-    let after-run-in = c .before .before .before .before .before .before .before .before .before .before .before .before .before
-    .before .before .before in
-    after-run-in .run-in .kept .1 .1 .1 .1 .1 .1 .0
+same-length-2 c = search needs
 
 same-length-3 : tie.Need-same-length-3
-same-length-3 c =
-    let after-run-in = c .before .before .before .before .before .before .before .before .before .before .before .before .before
-    .before .before .before in
-    after-run-in .run-in .kept .1 .1 .1 .1 .1 .1 .1 .1 .1 .1 .0
+same-length-3 c = search needs
 
 same-length-4 : tie.Need-same-length-4
-same-length-4 c =
-    let after-run-in = c .before .before .before .before .before .before .before .before .before .before .before .before .before
-    .before .before .before in
-    after-run-in .run-in .kept .1 .1 .1 .1 .1 .1 .1 .1 .1 .1 .1 .0
+same-length-4 c = search needs
 
 same-length-5 : tie.Need-same-length-5
-same-length-5 c =
-    let after-run-in = c .before .before .before .before .before .before .before .before .before .before .before .before .before
-    .before .before .before in
-    after-run-in .run-in .kept .1 .1 .1 .1 .1 .1 .1 .1 .1 .1 .1 .1 .0
+same-length-5 c = search needs
 
 returns : tie.Need-returns
 returns c =

@@ -2,7 +2,7 @@
 use mathlib.Core.Path.{sym}
 use native.Mathlib.Omega.{arith}
 use lib.ListN.{length-take}
-use Rattle.edge_closer_text.proofs.Reading.{case-bad, case-input, case-few}
+use Rattle.edge_closer_text.proofs.Parsing.{case-bad, case-input, case-few}
 use Rattle.edge_closer_run.proofs.Printing.{output-bad, output-good, wrote-as}
 use borrow.Author.Needs.{needs}
 use Rattle.edge_closer_run.proofs.close_input.Statement.{statement}

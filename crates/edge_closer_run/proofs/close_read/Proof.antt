@@ -2,6 +2,7 @@
 use mathlib.Core.Path.{_≡_}
 use native.Mathlib.Omega.{arith}
 use lib.ListN.{length}
+use Rattle.edge_closer_text.specs.Sizes.{input-length}
 use Rattle.edge_closer_run.proofs.Printing.{output-read}
 use borrow.Author.Needs.{needs}
 use Rattle.edge_closer_run.proofs.close_read.Statement.{statement}
@@ -17,7 +18,7 @@ returns : tie.Need-returns
 returns c =
     let after-close-first = c .before .before in
     let args = after-close-first .before .before .before .before .args in
-    let long : length (args .read .now) ≡ 33005 = omega arith in
+    let long : length (args .read .now) ≡ input-length = omega arith in
     record {
       wrote = after-close-first .close-first .ensures;
       whole = λ text e. output-read (args .read .now) (args .n) text long e;

@@ -7,6 +7,7 @@ use borrow.Author.Needs.{needs}
 use Rattle.dictionary_layout.specs.Values.{contents}
 use Rattle.dictionary_index.specs.Values.{put-left}
 use Rattle.edge_decimal.proofs.Writing.{wrote-front}
+use Rattle.edge_closer_text.specs.Sizes.{name-width}
 use Rattle.edge_closer_run.specs.Program.{named}
 use Rattle.edge_closer_run.proofs.Names.{no-names, next-name}
 use Rattle.edge_closer_run.proofs.put_names.Statement.{statement}
@@ -14,7 +15,7 @@ use Rattle.edge_closer_run.proofs.put_names.Tie as tie
 
 abbrev Inv-loop : tie.InvT-loop
 Inv-loop table₀ arena₀ count name₀ left₀ n₀ table arena name left n =
-    (n ≤ count) × (length table ≡ length table₀) × (length arena ≡ length arena₀) × (length name ≡ 15)
+    (n ≤ count) × (length table ≡ length table₀) × (length arena ≡ length arena₀) × (length name ≡ name-width)
     × (contents table arena left ≡ named n (contents table₀ arena₀ left₀))
 
 abbrev μ-loop : tie.MeasureT-loop

@@ -4,8 +4,9 @@ use mathlib.Core.Path.{sym}
 use native.Mathlib.Omega.{arith}
 use lib.ListN.{length}
 use borrow.Author.Needs.{needs}
-use Rattle.edge_decimal.proofs.Numerals.{number-empty, number-zero, Counted, counted-start, counted-low, counted-high, counted-over}
-use Rattle.edge_decimal.proofs.Numerals.{counted-step, counted-end, zero-led, leads, leads-not}
+use Rattle.edge_decimal.proofs.Numerals.{number-empty, number-zero, zero-led, leads, leads-not}
+use Rattle.edge_decimal.proofs.Reading.{Counted, counted-start, counted-low, counted-high, counted-over, counted-step}
+use Rattle.edge_decimal.proofs.Reading.{counted-end}
 use Rattle.edge_decimal.proofs.number.Statement.{statement}
 use Rattle.edge_decimal.proofs.number.Tie as tie
 
@@ -33,7 +34,9 @@ returns-3 c =
     sym (number-zero (z .args .most) (z .args .bytes .now) (c .before .if2 .taken) (omega arith))
 
 loop-holds : tie.Need-loop-holds Inv-loop μ-loop
-loop-holds c = let z = c .before .before .before in counted-start (z .args .bytes .now) (z .args .most)
+loop-holds c =
+    let z = c .before .before .before in
+    counted-start (z .args .bytes .now) (z .args .most)
 
 shared-slice-read-b : tie.Need-shared-slice-read-b Inv-loop μ-loop
 shared-slice-read-b c = search needs

@@ -11,7 +11,9 @@ same-length : tie.Need-same-length
 same-length c = search needs
 
 returns : tie.Need-returns
-returns c = whole-over ((c .before .before .before .check-rows) .ensures) ((c .if1) .taken)
+returns c =
+    let after-check-rows = c .before .before .before in
+    whole-over ((after-check-rows .check-rows) .ensures) ((c .if1) .taken)
 
 sort-rows-requires : tie.Need-sort-rows-requires
 sort-rows-requires c κs = search needs

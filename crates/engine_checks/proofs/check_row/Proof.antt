@@ -6,14 +6,14 @@ use native.Mathlib.Omega.{arith}
 use borrow.Author.Needs.{needs}
 use borrow.Author.Tests.{not-true, not-false}
 use Rattle.common.specs.Values.{triple-of}
-use Rattle.store_rows.specs.Rows.{rowAt}
+use Rattle.store_rows.specs.Rows.{rowAt, row-graph}
 use Rattle.store_rows.specs.Store.{Small}
-use Rattle.engine_checks.specs.Pairs.{row-graph, finding-of, key-by, Gives}
+use Rattle.engine_checks.specs.Pairs.{finding-of, key-by, Gives}
 use Rattle.engine_checks.proofs.Pairing.{block-bound, chain-by}
 use Rattle.engine_checks.proofs.Scanning.{Scanning, scanning-start, scanning-below, scanning-key, scanning-skip, scanning-step}
 use Rattle.engine_checks.proofs.Scanning.{scanning-full, scanning-end}
-use Rattle.engine_checks.proofs.Giving.{chain-head, chain-link, once-assertion, appended-gives, gives-none, appended-with}
-use Rattle.engine_checks.proofs.Giving.{check-number}
+use Rattle.store_rows.proofs.Chain.{chain-head, chain-link}
+use Rattle.engine_checks.proofs.Giving.{once-assertion, appended-gives, gives-none, appended-with, check-number}
 use Rattle.engine_checks.proofs.check_row.Statement.{statement}
 use Rattle.engine_checks.proofs.check_row.Tie as tie
 
@@ -26,8 +26,8 @@ Inv-loop store hash ix n findings₀ k t block key done₀ cur₀ findings done 
 abbrev μ-loop : tie.MeasureT-loop
 μ-loop store hash ix n findings₀ k t block key done₀ cur₀ findings done cur = cur
 
-block-by-requires : tie.Need-block-by-requires Inv-loop μ-loop
-block-by-requires c κs = search needs
+assertions-block-requires : tie.Need-assertions-block-requires Inv-loop μ-loop
+assertions-block-requires c κs = search needs
 
 wide-requires : tie.Need-wide-requires Inv-loop μ-loop
 wide-requires c κs = search needs
@@ -35,17 +35,17 @@ wide-requires c κs = search needs
 head-requires : tie.Need-head-requires Inv-loop μ-loop
 head-requires c κs =
     let at-start = c .before .before .before .before .before .before in (
-      omega (arith, block-bound (at-start .args .k) _ (c .before .block-by .ensures), at-start .pre .0 .indexed .wide),
+      omega (arith, block-bound (at-start .args .k) _ (c .before .assertions-block .ensures), at-start .pre .0 .indexed .wide),
       omega (arith, c .wide .ensures, at-start .pre .3 .s),
     )
 
 loop-holds : tie.Need-loop-holds Inv-loop μ-loop
 loop-holds c =
-    let after-block-by = c .before .before in
-    let at-start = after-block-by .before .before .before .before .before in
+    let after-assertions-block = c .before .before in
+    let at-start = after-assertions-block .before .before .before .before .before in
     let pre = at-start .pre in (
       scanning-start (pre .1) (pre .2)
-          (chain-head (chain-by (pre .0 .indexed) (at-start .args .k) _ (after-block-by .block-by .ensures)) _ _
+          (chain-head (chain-by (pre .0 .indexed) (at-start .args .k) _ (after-assertions-block .assertions-block .ensures)) _ _
           (omega (arith, c .before .wide .ensures, pre .3 .s)) (c .head .ensures)),
       refl,
     )
@@ -61,9 +61,9 @@ row-requires c κs =
 link-requires : tie.Need-link-requires Inv-loop μ-loop
 link-requires c κs =
     let at-loop = c .before .before in
-    let after-block-by = at-loop .before .before .before in
-    let at-start = after-block-by .before .before .before .before .before in (
-      omega (arith, block-bound (at-start .args .k) _ (after-block-by .block-by .ensures), at-start .pre .0 .indexed .wide),
+    let after-assertions-block = at-loop .before .before .before in
+    let at-start = after-assertions-block .before .before .before .before .before in (
+      omega (arith, block-bound (at-start .args .k) _ (after-assertions-block .assertions-block .ensures), at-start .pre .0 .indexed .wide),
       omega arith,
       omega (
         arith,
@@ -94,11 +94,11 @@ loop-less c =
     let after-link = c .before .before in
     let at-loop-test = after-link .before .before in
     let at-loop = at-loop-test .before in
-    let after-block-by = at-loop .before .before .before in
-    let at-start = after-block-by .before .before .before .before .before in
+    let after-assertions-block = at-loop .before .before .before in
+    let at-start = after-assertions-block .before .before .before .before .before in
     omega (
       arith,
-      (chain-link (chain-by (at-start .pre .0 .indexed) (at-start .args .k) _ (after-block-by .block-by .ensures))
+      (chain-link (chain-by (at-start .pre .0 .indexed) (at-start .args .k) _ (after-assertions-block .assertions-block .ensures))
           (at-loop .loop .cur - 1) _ (scanning-below (at-loop .loop .inv .0) (at-loop-test .loop-test .taken))
           (after-link .link .ensures)) .below,
     )
@@ -110,11 +110,12 @@ loop-again c =
     let at-loop-test = after-row .before in
     let at-loop = at-loop-test .before in
     let loop = at-loop .loop in
-    let after-block-by = at-loop .before .before .before in
-    let at-start = after-block-by .before .before .before .before .before in
+    let after-assertions-block = at-loop .before .before .before in
+    let at-start = after-assertions-block .before .before .before .before .before in
     let args = at-start .args in (
       scanning-skip (loop .inv .0) (at-loop-test .loop-test .taken)
-          (chain-link (chain-by (at-start .pre .0 .indexed) (args .k) _ (after-block-by .block-by .ensures)) (loop .cur - 1) _
+          (chain-link (chain-by (at-start .pre .0 .indexed) (args .k) _ (after-assertions-block .assertions-block .ensures))
+          (loop .cur - 1) _
           (scanning-below (loop .inv .0) (at-loop-test .loop-test .taken)) (after-link .link .ensures))
           (gives-none (args .k) (args .store .now) (args .n) (triple-of (args .t)) (triple-of (after-row .row .result))
           (loop .cur - 1) (after-row .row .ensures) (c .before .violates .ensures .no (not-true _ (c .if1 .taken)))),
@@ -152,8 +153,8 @@ returns c =
     let at-loop = at-loop-test .before in
     let loop = at-loop .loop in
     let after-wide = at-loop .before .before in
-    let after-block-by = after-wide .before in
-    let at-start = after-block-by .before .before .before .before .before in
+    let after-assertions-block = after-wide .before in
+    let at-start = after-assertions-block .before .before .before .before .before in
     let args = at-start .args in
     let k₀ = args .k in
     appended-with k₀ (args .store .now) (args .n) (triple-of (args .t)) _ (after-wide .wide .ensures)
@@ -162,7 +163,7 @@ returns c =
     (appended-gives k₀ (args .store .now) (args .n) (triple-of (args .t)) (triple-of (after-row .row .result)) (loop .cur - 1)
     (after-row .row .ensures) (after-violates .violates .ensures .yes (not-false _ (at-if1 .if1 .left)))
     (finding-of (after-finding-by .finding-by .result)) (after-finding-by .finding-by .ensures) (after-append .append .ensures))
-    (chain-link (chain-by (at-start .pre .0 .indexed) k₀ _ (after-block-by .block-by .ensures)) (loop .cur - 1) _
+    (chain-link (chain-by (at-start .pre .0 .indexed) k₀ _ (after-assertions-block .assertions-block .ensures)) (loop .cur - 1) _
     (scanning-below (loop .inv .0) (at-loop-test .loop-test .taken)) (after-link .link .ensures)) (c .if2 .taken))
 
 loop-less-2 : tie.Need-loop-less-2 Inv-loop μ-loop
@@ -170,11 +171,11 @@ loop-less-2 c =
     let after-link = c .before .before .before .before .before .before .before .before in
     let at-loop-test = after-link .before .before in
     let at-loop = at-loop-test .before in
-    let after-block-by = at-loop .before .before .before in
-    let at-start = after-block-by .before .before .before .before .before in
+    let after-assertions-block = at-loop .before .before .before in
+    let at-start = after-assertions-block .before .before .before .before .before in
     omega (
       arith,
-      (chain-link (chain-by (at-start .pre .0 .indexed) (at-start .args .k) _ (after-block-by .block-by .ensures))
+      (chain-link (chain-by (at-start .pre .0 .indexed) (at-start .args .k) _ (after-assertions-block .assertions-block .ensures))
           (at-loop .loop .cur - 1) _ (scanning-below (at-loop .loop .inv .0) (at-loop-test .loop-test .taken))
           (after-link .link .ensures)) .below,
     )
@@ -190,8 +191,8 @@ loop-again-2 c =
     let at-loop-test = after-row .before in
     let at-loop = at-loop-test .before in
     let loop = at-loop .loop in
-    let after-block-by = at-loop .before .before .before in
-    let at-start = after-block-by .before .before .before .before .before in
+    let after-assertions-block = at-loop .before .before .before in
+    let at-start = after-assertions-block .before .before .before .before .before in
     let args = at-start .args in (
       scanning-step (loop .inv .0) (at-loop-test .loop-test .taken)
           (once-assertion (args .k) (args .store .now) (args .n) (triple-of (args .t)) (at-start .pre .0 .good))
@@ -199,7 +200,8 @@ loop-again-2 c =
           (loop .cur - 1) (after-row .row .ensures) (after-violates .violates .ensures .yes (not-false _ (at-if1 .if1 .left)))
           (finding-of (after-finding-by .finding-by .result)) (after-finding-by .finding-by .ensures)
           (after-append .append .ensures))
-          (chain-link (chain-by (at-start .pre .0 .indexed) (args .k) _ (after-block-by .block-by .ensures)) (loop .cur - 1) _
+          (chain-link (chain-by (at-start .pre .0 .indexed) (args .k) _ (after-assertions-block .assertions-block .ensures))
+          (loop .cur - 1) _
           (scanning-below (loop .inv .0) (at-loop-test .loop-test .taken)) (after-link .link .ensures)) (c .if2 .left),
       search needs,
     )
@@ -221,7 +223,7 @@ check-row-spec =
     (tie.spec
     Inv-loop
     μ-loop
-    block-by-requires
+    assertions-block-requires
     wide-requires
     head-requires
     loop-holds

@@ -25,7 +25,9 @@ abbrev μ-loop : tie.MeasureT-loop
 μ-loop store hash ix n findings₀ done₀ i₀ findings done i = i
 
 loop-holds : tie.Need-loop-holds Inv-loop μ-loop
-loop-holds c = (scanning-start (ready-start _ ((c .before .before .before .before .pre) .1)) refl (every-row _), refl)
+loop-holds c =
+    let at-start = c .before .before .before .before in
+    (scanning-start (ready-start _ ((at-start .pre) .1)) refl (every-row _), refl)
 
 sub-row : tie.Need-sub-row Inv-loop μ-loop
 sub-row c = search needs

@@ -1,19 +1,20 @@
 -- `engine_checks::cls_nothing2` meets its contract. Assumes nothing.
-use Rattle.engine_checks.proofs.Answering.{answers-no, answers-nonzero}
+use Rattle.store_rows.proofs.Cases.{reflects-no}
+use Rattle.engine_checks.proofs.Reflecting.{reflects-nonzero}
 use Rattle.engine_checks.proofs.cls_nothing2.Statement.{statement}
 use Rattle.engine_checks.proofs.cls_nothing2.Tie as tie
 
 returns : tie.Need-returns
-returns c = answers-no (λ w. (c .if1) .taken (w .typed))
+returns c = reflects-no (λ w. (c .if1) .taken (w .typed))
 
 returns-2 : tie.Need-returns-2
-returns-2 c = answers-no (λ w. (c .if2) .taken (w .class))
+returns-2 c = reflects-no (λ w. (c .if2) .taken (w .class))
 
 returns-3 : tie.Need-returns-3
 returns-3 c =
     let at-if1 = c .before .before .before .before in
     let at-start = at-if1 .before .before .before in
-    answers-nonzero (at-start .args .t .s .0)
+    reflects-nonzero (at-start .args .t .s .0)
     (λ z. record { instance = at-start .pre; typed = at-if1 .if1 .left; class = c .before .if2 .left; nonzero = z })
     (λ w. w .nonzero)
 

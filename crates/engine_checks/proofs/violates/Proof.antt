@@ -1,7 +1,8 @@
 -- `engine_checks::violates` meets its contract. Assumes nothing.
 use Rattle.common.specs.Values.{triple-of}
-use Rattle.engine_checks.specs.Pairs.{row-graph}
-use Rattle.engine_checks.proofs.Answering.{answers-no, answers-kind, key-kind}
+use Rattle.store_rows.specs.Rows.{row-graph}
+use Rattle.store_rows.proofs.Cases.{reflects-no}
+use Rattle.engine_checks.proofs.Reflecting.{reflects-kind, key-kind}
 use borrow.Author.Needs.{needs}
 use Rattle.engine_checks.proofs.violates.Statement.{statement}
 use Rattle.engine_checks.proofs.violates.Tie as tie
@@ -56,42 +57,42 @@ returns : tie.Need-returns
 returns c =
     let at-start = c .before .before .before .before in
     let args = at-start .args in
-    answers-kind (row-graph (args .store .now) (args .n)) (triple-of (args .t)) (triple-of (args .u)) (c .enum-told .given .1)
-    (answers-no (λ w. w))
+    reflects-kind (row-graph (args .store .now) (args .n)) (triple-of (args .t)) (triple-of (args .u)) (c .enum-told .given .1)
+    (reflects-no (λ w. w))
 
 returns-2 : tie.Need-returns-2
 returns-2 c =
     let at-start = c .before .before .before .before .before in
     let args = at-start .args in
-    answers-kind (row-graph (args .store .now) (args .n)) (triple-of (args .t)) (triple-of (args .u))
+    reflects-kind (row-graph (args .store .now) (args .n)) (triple-of (args .t)) (triple-of (args .u))
     (c .before .enum-told2 .given .1) (c .cax-dw .ensures)
 
 returns-3 : tie.Need-returns-3
 returns-3 c =
     let at-start = c .before .before .before .before .before in
     let args = at-start .args in
-    answers-kind (row-graph (args .store .now) (args .n)) (triple-of (args .t)) (triple-of (args .u))
+    reflects-kind (row-graph (args .store .now) (args .n)) (triple-of (args .t)) (triple-of (args .u))
     (c .before .enum-told3 .given .1) (c .prp-irp .ensures)
 
 returns-4 : tie.Need-returns-4
 returns-4 c =
     let at-start = c .before .before .before .before .before in
     let args = at-start .args in
-    answers-kind (row-graph (args .store .now) (args .n)) (triple-of (args .t)) (triple-of (args .u))
+    reflects-kind (row-graph (args .store .now) (args .n)) (triple-of (args .t)) (triple-of (args .u))
     (c .before .enum-told4 .given .1) (c .prp-asyp .ensures)
 
 returns-5 : tie.Need-returns-5
 returns-5 c =
     let at-start = c .before .before .before .before .before in
     let args = at-start .args in
-    answers-kind (row-graph (args .store .now) (args .n)) (triple-of (args .t)) (triple-of (args .u))
+    reflects-kind (row-graph (args .store .now) (args .n)) (triple-of (args .t)) (triple-of (args .u))
     (c .before .enum-told5 .given .1) (c .prp-pdw .ensures)
 
 returns-6 : tie.Need-returns-6
 returns-6 c =
     let at-start = c .before .before .before .before .before in
     let args = at-start .args in
-    answers-kind (row-graph (args .store .now) (args .n)) (triple-of (args .t)) (triple-of (args .u))
+    reflects-kind (row-graph (args .store .now) (args .n)) (triple-of (args .t)) (triple-of (args .u))
     (c .before .enum-told6 .given .1) (c .cls-nothing2 .ensures)
 
 pub violates-spec : {M : Type 1} → statement M

@@ -24,11 +24,11 @@ put-lines-requires c κs = search needs
 array-share-prefix-text : tie.Need-array-share-prefix-text
 array-share-prefix-text c = search needs
 
-slice-aggregate-counted : tie.Need-slice-aggregate-counted
-slice-aggregate-counted c = sym (simp length-take (omega arith))
+slice-aggregate-print-first-line : tie.Need-slice-aggregate-print-first-line
+slice-aggregate-print-first-line c = sym (simp length-take (omega arith))
 
-counted-requires : tie.Need-counted-requires
-counted-requires c κs = search needs
+print-first-line-requires : tie.Need-print-first-line-requires
+print-first-line-requires c κs = search needs
 
 returns : tie.Need-returns
 returns c = search needs
@@ -43,6 +43,6 @@ clashes-spec =
     slice-aggregate-put-lines
     put-lines-requires
     array-share-prefix-text
-    slice-aggregate-counted
-    counted-requires
+    slice-aggregate-print-first-line
+    print-first-line-requires
     returns)

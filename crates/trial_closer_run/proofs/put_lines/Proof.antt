@@ -4,13 +4,14 @@ use mathlib.Core.Path.{_≡_}
 use native.Mathlib.Omega.{arith}
 use lib.ListN.{length}
 use borrow.Author.Needs.{needs}
-use Rattle.trial_closer_run.proofs.Lines.{short-line}
+use Rattle.edge_closer_text.specs.Sizes.{three-width}
+use Rattle.edge_closer_text.proofs.Printing.{three-short}
 use Rattle.trial_closer_run.proofs.put_lines.Statement.{statement}
 use Rattle.trial_closer_run.proofs.put_lines.Tie as tie
 
 abbrev Inv-loop : tie.InvT-loop
 Inv-loop first p lines text₀ at to₀ k₀ text to k =
-    (k ≤ lines) × (to ≤ at + 33 * k) × (length text ≡ length text₀)
+    (k ≤ lines) × (to ≤ at + three-width * k) × (length text ≡ length text₀)
 
 abbrev μ-loop : tie.MeasureT-loop
 μ-loop first p lines text₀ at to₀ k₀ text to k = lines - k
@@ -47,7 +48,7 @@ loop-again c =
     let z = at-loop .before .before in
     let h = z .pre .0 in
     let i = z .fits .p .fits in
-    let l = short-line (z .args .first + k) (z .args .p) (z .args .first + k + 1) (omega arith) (omega arith) (omega arith) in
+    let l = three-short (z .args .first + k) (z .args .p) (z .args .first + k + 1) (omega arith) (omega arith) (omega arith) in
     let e = after-put-line .put-line .ensures .end in
     (omega arith, omega arith, search needs)
 

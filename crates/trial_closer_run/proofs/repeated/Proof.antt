@@ -36,11 +36,11 @@ put-lines-requires-3 c κs = search needs
 array-share-prefix-text : tie.Need-array-share-prefix-text
 array-share-prefix-text c = search needs
 
-slice-aggregate-counted : tie.Need-slice-aggregate-counted
-slice-aggregate-counted c = sym (simp length-take (omega arith))
+slice-aggregate-print-first-line : tie.Need-slice-aggregate-print-first-line
+slice-aggregate-print-first-line c = sym (simp length-take (omega arith))
 
-counted-requires : tie.Need-counted-requires
-counted-requires c κs = search needs
+print-first-line-requires : tie.Need-print-first-line-requires
+print-first-line-requires c κs = search needs
 
 returns : tie.Need-returns
 returns c = search needs
@@ -59,6 +59,6 @@ repeated-spec =
     slice-aggregate-put-lines-3
     put-lines-requires-3
     array-share-prefix-text
-    slice-aggregate-counted
-    counted-requires
+    slice-aggregate-print-first-line
+    print-first-line-requires
     returns)

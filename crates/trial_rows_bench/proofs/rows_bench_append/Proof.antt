@@ -19,7 +19,9 @@ abbrev μ-loop : tie.MeasureT-loop
 μ-loop load store₀ hash₀ count n₀ k₀ store hash n k = count - k
 
 loop-holds : tie.Need-loop-holds Inv-loop μ-loop
-loop-holds c = (appended-none _ (c .before .before .before .pre .0), search needs, search needs, search needs)
+loop-holds c =
+    let at-start = c .before .before .before in
+    (appended-none _ (at-start .pre .0), search needs, search needs, search needs)
 
 row-requires : tie.Need-row-requires Inv-loop μ-loop
 row-requires c κs = search needs

@@ -1,8 +1,8 @@
 -- `dictionary_entries::append::write_entry` meets its contract. Assumes nothing.
-use Prim.Native.Nat.{_+_, _*_}
 use native.Mathlib.Omega.{arith}
 use borrow.Author.Needs.{needs}
 use lib.ListN.{length-set}
+use Rattle.dictionary_layout.specs.Layout.{entry-at}
 use Rattle.dictionary_entries.proofs.Appending.{four-stores}
 use Rattle.dictionary_entries.proofs.append.write_entry.Statement.{statement}
 use Rattle.dictionary_entries.proofs.append.write_entry.Tie as tie
@@ -51,7 +51,7 @@ same-length c = search needs
 
 returns : tie.Need-returns
 returns c =
-    four-stores (c .args .table .now) (64 + 4 * c .args .id) (c .args .start) (c .args .len) (c .args .kind) (c .args .next)
+    four-stores (c .args .table .now) (entry-at (c .args .id)) (c .args .start) (c .args .len) (c .args .kind) (c .args .next)
 
 pub write-entry-spec : {M : Type 1} → statement M
 write-entry-spec =

@@ -1,6 +1,6 @@
 -- `dictionary_entries::entry::names` meets its contract. Assumes nothing.
 use borrow.Author.Needs.{needs}
-use Rattle.dictionary_entries.proofs.Finding.{other-kind, same-kind}
+use Rattle.dictionary_entries.proofs.Searching.{other-kind, same-kind}
 use Rattle.dictionary_entries.proofs.entry.names.Statement.{statement}
 use Rattle.dictionary_entries.proofs.entry.names.Tie as tie
 

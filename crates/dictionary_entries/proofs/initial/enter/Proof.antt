@@ -8,7 +8,9 @@ use Rattle.dictionary_entries.proofs.initial.enter.Statement.{statement
 use Rattle.dictionary_entries.proofs.initial.enter.Tie as tie
 
 digest-requires : tie.Need-digest-requires
-digest-requires c κs = omega (arith, next-short (c .before .before .before .pre))
+digest-requires c κs =
+    let at-start = c .before .before .before in
+    omega (arith, next-short (at-start .pre))
 
 append-requires : tie.Need-append-requires
 append-requires c κs =

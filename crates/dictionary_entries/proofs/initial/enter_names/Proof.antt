@@ -31,13 +31,19 @@ shared-slice-read-t20 : tie.Need-shared-slice-read-t20 Inv-loop μ-loop
 shared-slice-read-t20 c = omega arith
 
 sub-enter-named : tie.Need-sub-enter-named Inv-loop μ-loop
-sub-enter-named c = c .before .before .before .name-end .ensures .ordered
+sub-enter-named c =
+    let after-name-end = c .before .before .before in
+    after-name-end .name-end .ensures .ordered
 
 part-enter-named-start : tie.Need-part-enter-named-start Inv-loop μ-loop
-part-enter-named-start c = c .before .before .before .name-end .ensures .ordered
+part-enter-named-start c =
+    let after-name-end = c .before .before .before in
+    after-name-end .name-end .ensures .ordered
 
 part-enter-named-end : tie.Need-part-enter-named-end Inv-loop μ-loop
-part-enter-named-end c = c .before .before .before .name-end .ensures .within
+part-enter-named-end c =
+    let after-name-end = c .before .before .before in
+    after-name-end .name-end .ensures .within
 
 enter-named-requires : tie.Need-enter-named-requires Inv-loop μ-loop
 enter-named-requires c κs =

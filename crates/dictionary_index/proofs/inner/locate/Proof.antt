@@ -1,8 +1,9 @@
 -- `dictionary_index::inner::locate` meets its contract. Assumes nothing.
-use Prim.Native.Nat.{_+_, _*_}
+use Prim.Native.Nat.{_+_}
 use native.Mathlib.Omega.{arith}
 use borrow.Author.Needs.{needs}
 use Rattle.dictionary_layout.specs.Values.{contents}
+use Rattle.dictionary_layout.specs.Layout.{entry-at}
 use Rattle.dictionary_entries.proofs.Reading.{entry-fits}
 use Rattle.dictionary_index.proofs.Looking.{look-12, look-known}
 use Rattle.dictionary_index.proofs.inner.locate.Statement.{statement}
@@ -36,7 +37,9 @@ shared-slice-read-start c =
     omega (arith, entry-fits d (z .pre) i (at-if1 .if1 .left) .entry)
 
 cast-start : tie.Need-cast-start
-cast-start c = omega (arith, c .shared-slice-known .given (64 + 4 * c .before .before .before .before .before .args .id .0))
+cast-start c =
+    let at-start = c .before .before .before .before .before in
+    omega (arith, c .shared-slice-known .given (entry-at (at-start .args .id .0)))
 
 add-end : tie.Need-add-end
 add-end c = search needs
@@ -55,7 +58,7 @@ shared-slice-read-end c =
 cast-end : tie.Need-cast-end
 cast-end c =
     let at-start = c .before .before .before .before .before .before in
-    omega (arith, c .shared-slice-known2 .given (64 + 4 * at-start .args .id .0 + 1))
+    omega (arith, c .shared-slice-known2 .given (entry-at (at-start .args .id .0) + 1))
 
 add-end-2 : tie.Need-add-end-2
 add-end-2 c =

@@ -19,7 +19,9 @@ shared-slice-read-dst : tie.Need-shared-slice-read-dst Inv-loop μ-loop
 shared-slice-read-dst c = omega arith
 
 add-dst : tie.Need-add-dst Inv-loop μ-loop
-add-dst c = omega (arith, c .before .before .before .pre)
+add-dst c =
+    let at-start = c .before .before .before in
+    omega (arith, at-start .pre)
 
 slice-write-dst : tie.Need-slice-write-dst Inv-loop μ-loop
 slice-write-dst c =

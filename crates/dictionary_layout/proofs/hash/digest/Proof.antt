@@ -35,7 +35,9 @@ add-sum c =
     )
 
 mul-hash : tie.Need-mul-hash Inv-loop μ-loop
-mul-hash c = omega (arith, c .before .before .before .loop .inv .below)
+mul-hash c =
+    let at-loop = c .before .before .before in
+    omega (arith, at-loop .loop .inv .below)
 
 add-hash : tie.Need-add-hash Inv-loop μ-loop
 add-hash c =

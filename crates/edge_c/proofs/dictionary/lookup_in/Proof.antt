@@ -1,5 +1,6 @@
 -- `edge_c::dictionary::lookup_in` meets its contract. Assumes nothing.
-use Rattle.edge_c.proofs.Forwarding.{table-enough, prefix-fits, prefix-count, prefix-forwarded}
+use borrow.Author.Needs.{needs}
+use Rattle.edge_c.proofs.Forwarding.{table-enough, prefix, prefix-forwarded}
 use Rattle.edge_c.proofs.dictionary.lookup_in.Statement.{statement}
 use Rattle.edge_c.proofs.dictionary.lookup_in.Tie as tie
 
@@ -8,24 +9,24 @@ how-many-requires c κs = tt
 
 slice-relend-prefix-lookup-on : tie.Need-slice-relend-prefix-lookup-on
 slice-relend-prefix-lookup-on c =
-    let z = c .before .before .before .before in
-    prefix-fits 262204 1 (z .args .table .now) (z .args .numbers .now) (table-enough (z .args .numbers .now) (z .pre))
-    (c .how-many .ensures)
+    let at-start = c .before .before .before .before in
+    let enough = table-enough (at-start .args .numbers .now) (at-start .pre) in
+    prefix enough (at-start .args .table .now) (c .how-many .ensures) .fits
 
 slice-aggregate-lookup-on : tie.Need-slice-aggregate-lookup-on
 slice-aggregate-lookup-on c =
-    let z = c .before .before .before .before .before in
-    prefix-count 262204 1 (z .args .table .now) (z .args .numbers .now) (table-enough (z .args .numbers .now) (z .pre))
-    (c .before .how-many .ensures)
+    let at-start = c .before .before .before .before .before in
+    let enough = table-enough (at-start .args .numbers .now) (at-start .pre) in
+    prefix enough (at-start .args .table .now) (c .before .how-many .ensures) .count
 
 lookup-on-requires : tie.Need-lookup-on-requires
 lookup-on-requires c κs =
-    let z = c .before .before .before .before .before in
-    prefix-forwarded 262204 1 (z .args .table .now) (z .args .numbers .now) (table-enough (z .args .numbers .now) (z .pre))
-    (c .before .how-many .ensures)
+    let at-start = c .before .before .before .before .before in
+    let enough = table-enough (at-start .args .numbers .now) (at-start .pre) in
+    prefix-forwarded enough (at-start .args .table .now) (c .before .how-many .ensures)
 
 same-length : tie.Need-same-length
-same-length c = c .before .numbers .given .1
+same-length c = search needs
 
 returns : tie.Need-returns
 returns c = c .before .before .lookup-on .ensures

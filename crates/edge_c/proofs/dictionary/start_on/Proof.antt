@@ -1,5 +1,5 @@
 -- `edge_c::dictionary::start_on` meets its contract. Assumes nothing.
-use lib.ListN.{length}
+use borrow.Author.Needs.{needs}
 use Rattle.edge_c.proofs.Forwarding.{by-length}
 use Rattle.edge_c.proofs.Tables.{start-room, started}
 use Rattle.edge_c.proofs.dictionary.start_on.Statement.{statement}
@@ -10,28 +10,29 @@ start-requires c κs = tt
 
 write-back-requires : tie.Need-write-back-requires
 write-back-requires c κs =
-    let s = c .before .before .before .before .before .before .start in
-    let z = c .before .before .before .before .before .before .before .before .before .before .before .before in
-    start-room (z .args .table .now) (z .args .numbers .now) (z .args .arena .now)
-    (by-length 262204 1 (z .args .table .now) (length (z .args .numbers .now)) (z .pre)) (s .result) (s .ensures) (s .kept .0)
+    let after-start = c .before .before .before .before .before .before in
+    let at-start = after-start .before .before .before .before .before .before in
+    let args = at-start .args in
+    let s = after-start .start in
+    start-room (args .table .now) (args .numbers .now) (args .arena .now) (by-length (at-start .pre)) (s .result) (s .ensures) (s .kept .0)
 
 same-length : tie.Need-same-length
-same-length c = c .before .before .before .before .before .before .before .before .before .start .kept .0
+same-length c = search needs
 
 same-length-2 : tie.Need-same-length-2
-same-length-2 c = c .before .before .write-back .kept .1 .1 .0
+same-length-2 c = search needs
 
 same-length-3 : tie.Need-same-length-3
-same-length-3 c = c .before .before .before .before .before .before .before .before .before .start .kept .1 .0
+same-length-3 c = search needs
 
 returns : tie.Need-returns
 returns c =
     let after-write-back = c .before .before in
-    let s = after-write-back .before .before .before .before .before .before .before .start in
-    let z = after-write-back .before .before .before .before .before .before .before .before .before .before .before .before
-    .before in
-    started (z .args .table .now) (z .args .numbers .now) (z .args .arena .now)
-    (by-length 262204 1 (z .args .table .now) (length (z .args .numbers .now)) (z .pre)) (s .result) (s .ensures)
+    let after-start = after-write-back .before .before .before .before .before .before .before in
+    let at-start = after-start .before .before .before .before .before .before in
+    let args = at-start .args in
+    let s = after-start .start in
+    started (args .table .now) (args .numbers .now) (args .arena .now) (by-length (at-start .pre)) (s .result) (s .ensures)
     (after-write-back .write-back .ensures)
 
 pub start-on-spec : {M : Type 1} → statement M

@@ -1,19 +1,65 @@
 -- `edge_c::run::run_in` meets its contract. Assumes nothing.
-use Prim.Native.Nat.{_+_, _/_, _%_}
+use Prim.Native.Nat.{_/_}
 use lib.ListN.{length}
 use Rattle.driver_load.specs.Lent.{lent}
-use Rattle.edge_c.proofs.Forwarding.{table-enough, load-enough, store-enough, findings-enough, work-enough, few-more, prefix-fits}
-use Rattle.edge_c.proofs.Forwarding.{prefix-count, all-forwarded}
+use borrow.Author.Needs.{needs}
+use Rattle.edge_c.proofs.Forwarding.{table-enough, load-enough, store-enough, findings-enough, work-enough, few-more, Prefix}
+use Rattle.edge_c.proofs.Forwarding.{prefix, all-forwarded}
 use Rattle.edge_c.proofs.run.run_in.Statement.{statement}
 use Rattle.edge_c.proofs.run.run_in.Tie as tie
+
+-- where the function starts, from the state after the first call of `how_many`
+abbrev entry : tie.After-how-many → tie.Start
+entry s = s .before .before .before .before .before .before .before .before .before .before .before .before
+
+-- the state after the five calls of `how_many`, and those before it
+module _ (s : tie.After-how-many5) where
+  abbrev fourth : tie.After-how-many4
+  fourth = s .before
+
+  abbrev third : tie.After-how-many3
+  third = fourth .before
+
+  abbrev second : tie.After-how-many2
+  second = third .before
+
+  abbrev first : tie.After-how-many
+  first = second .before
+
+  abbrev at-start : tie.Start
+  at-start = entry first
+
+  -- the numbers suffice for each buffer
+  table-prefix : Prefix (at-start .args .t .now) (first .how-many .result)
+  table-prefix =
+      let enough = table-enough (at-start .args .t .now) (at-start .pre .table-room) in
+      prefix enough (at-start .args .table .now) (first .how-many .ensures)
+
+  load-prefix : Prefix (at-start .args .l .now) (second .how-many2 .result)
+  load-prefix =
+      let enough = load-enough (length (at-start .args .load .now) / 4) (at-start .args .l .now) (at-start .pre .load-room) in
+      prefix enough (at-start .args .load .now) (second .how-many2 .ensures)
+
+  store-prefix : Prefix (at-start .args .s .now) (third .how-many3 .result)
+  store-prefix =
+      let enough = store-enough (at-start .args .s .now) (at-start .pre .store-room) in
+      prefix enough (at-start .args .store .now) (third .how-many3 .ensures)
+
+  findings-prefix : Prefix (at-start .args .f .now) (fourth .how-many4 .result)
+  findings-prefix =
+      let enough = findings-enough (at-start .args .f .now) (at-start .pre .findings-room) in
+      prefix enough (at-start .args .findings .now) (fourth .how-many4 .ensures)
+
+  work-prefix : Prefix (at-start .args .w .now) (s .how-many5 .result)
+  work-prefix =
+      let enough = work-enough (at-start .args .w .now) (at-start .pre .work-room) in
+      prefix enough (at-start .args .work .now) (s .how-many5 .ensures)
 
 how-many-requires : tie.Need-how-many-requires
 how-many-requires c κs = tt
 
 add-how-many : tie.Need-add-how-many
-add-how-many c =
-    let at-start = c .before .before .before .before .before .before .before .before .before .before .before .before in
-    few-more (length (at-start .args .load .now))
+add-how-many c = few-more (length (entry c .args .load .now) / 4)
 
 how-many-requires-2 : tie.Need-how-many-requires-2
 how-many-requires-2 c κs = tt
@@ -28,153 +74,83 @@ how-many-requires-5 : tie.Need-how-many-requires-5
 how-many-requires-5 c κs = tt
 
 slice-relend-prefix-run-on : tie.Need-slice-relend-prefix-run-on
-slice-relend-prefix-run-on c =
-    let after-how-many = c .before .before .before .before in
-    let z = after-how-many .before .before .before .before .before .before .before .before .before .before .before .before in
-    prefix-fits 262204 1 (z .args .table .now) (z .args .t .now) (table-enough (z .args .t .now) (z .pre .table-room))
-    (after-how-many .how-many .ensures)
+slice-relend-prefix-run-on c = table-prefix c .fits
 
 slice-aggregate-run-on : tie.Need-slice-aggregate-run-on
-slice-aggregate-run-on c =
-    let after-how-many = c .before .before .before .before .before in
-    let z = after-how-many .before .before .before .before .before .before .before .before .before .before .before .before in
-    prefix-count 262204 1 (z .args .table .now) (z .args .t .now) (table-enough (z .args .t .now) (z .pre .table-room))
-    (after-how-many .how-many .ensures)
+slice-aggregate-run-on c = table-prefix (c .before) .count
 
 slice-relend-prefix-run-on-2 : tie.Need-slice-relend-prefix-run-on-2
-slice-relend-prefix-run-on-2 c =
-    let after-how-many2 = c .before .before .before .before in
-    let z = after-how-many2 .before .before .before .before .before .before .before .before .before .before .before .before
-    .before in
-    let load₀ = z .args .load .now in
-    prefix-fits 49152 (49155 + length load₀ / 4 % 3) load₀ (z .args .l .now)
-    (load-enough (length load₀) (z .args .l .now) (z .pre .load-room)) (after-how-many2 .how-many2 .ensures)
+slice-relend-prefix-run-on-2 c = load-prefix (c .before) .fits
 
 slice-aggregate-run-on-2 : tie.Need-slice-aggregate-run-on-2
-slice-aggregate-run-on-2 c =
-    let after-how-many2 = c .before .before .before .before .before in
-    let z = after-how-many2 .before .before .before .before .before .before .before .before .before .before .before .before
-    .before in
-    let load₀ = z .args .load .now in
-    prefix-count 49152 (49155 + length load₀ / 4 % 3) load₀ (z .args .l .now)
-    (load-enough (length load₀) (z .args .l .now) (z .pre .load-room)) (after-how-many2 .how-many2 .ensures)
+slice-aggregate-run-on-2 c = load-prefix (c .before .before) .count
 
 slice-relend-prefix-run-on-3 : tie.Need-slice-relend-prefix-run-on-3
-slice-relend-prefix-run-on-3 c =
-    let after-how-many3 = c .before .before .before .before in
-    let z = after-how-many3 .before .before .before .before .before .before .before .before .before .before .before .before
-    .before .before in
-    prefix-fits 196605 1 (z .args .store .now) (z .args .s .now) (store-enough (z .args .s .now) (z .pre .store-room))
-    (after-how-many3 .how-many3 .ensures)
+slice-relend-prefix-run-on-3 c = store-prefix (c .before .before) .fits
 
 slice-aggregate-run-on-3 : tie.Need-slice-aggregate-run-on-3
 slice-aggregate-run-on-3 c =
-    let after-how-many3 = c .before .before .before .before .before in
-    let z = after-how-many3 .before .before .before .before .before .before .before .before .before .before .before .before
-    .before .before in
-    prefix-count 196605 1 (z .args .store .now) (z .args .s .now) (store-enough (z .args .s .now) (z .pre .store-room))
-    (after-how-many3 .how-many3 .ensures)
+    let after-how-many5 = c .before .before .before in
+    store-prefix after-how-many5 .count
 
 slice-relend-prefix-run-on-4 : tie.Need-slice-relend-prefix-run-on-4
 slice-relend-prefix-run-on-4 c =
-    let after-how-many4 = c .before .before .before .before in
-    let z = after-how-many4 .before .before .before .before .before .before .before .before .before .before .before .before
-    .before .before .before in
-    prefix-fits 327675 1 (z .args .findings .now) (z .args .f .now) (findings-enough (z .args .f .now) (z .pre .findings-room))
-    (after-how-many4 .how-many4 .ensures)
+    let after-how-many5 = c .before .before .before in
+    findings-prefix after-how-many5 .fits
 
 slice-aggregate-run-on-4 : tie.Need-slice-aggregate-run-on-4
 slice-aggregate-run-on-4 c =
-    let after-how-many4 = c .before .before .before .before .before in
-    let z = after-how-many4 .before .before .before .before .before .before .before .before .before .before .before .before
-    .before .before .before in
-    prefix-count 327675 1 (z .args .findings .now) (z .args .f .now) (findings-enough (z .args .f .now) (z .pre .findings-room))
-    (after-how-many4 .how-many4 .ensures)
+    let after-how-many5 = c .before .before .before .before in
+    findings-prefix after-how-many5 .count
 
 slice-relend-prefix-run-on-5 : tie.Need-slice-relend-prefix-run-on-5
 slice-relend-prefix-run-on-5 c =
     let after-how-many5 = c .before .before .before .before in
-    let z = after-how-many5 .before .before .before .before .before .before .before .before .before .before .before .before
-    .before .before .before .before in
-    prefix-fits 131076 131076 (z .args .work .now) (z .args .w .now) (work-enough (z .args .w .now) (z .pre .work-room))
-    (after-how-many5 .how-many5 .ensures)
+    work-prefix after-how-many5 .fits
 
 slice-aggregate-run-on-5 : tie.Need-slice-aggregate-run-on-5
 slice-aggregate-run-on-5 c =
     let after-how-many5 = c .before .before .before .before .before in
-    let z = after-how-many5 .before .before .before .before .before .before .before .before .before .before .before .before
-    .before .before .before .before in
-    prefix-count 131076 131076 (z .args .work .now) (z .args .w .now) (work-enough (z .args .w .now) (z .pre .work-room))
-    (after-how-many5 .how-many5 .ensures)
+    work-prefix after-how-many5 .count
 
 run-on-requires : tie.Need-run-on-requires
 run-on-requires c κs =
-    let after-how-many5 = c .before .before .before .before .before .before .before .before .before .before in
-    let after-how-many4 = after-how-many5 .before in
-    let after-how-many3 = after-how-many4 .before in
-    let after-how-many2 = after-how-many3 .before in
-    let after-how-many = after-how-many2 .before in
-    let z = after-how-many .before .before .before .before .before .before .before .before .before .before .before .before in
-    all-forwarded (z .pre) (z .args .table .now)
-    (lent (z .args .load .now) (z .args .store .now) (z .args .findings .now) (z .args .work .now))
-    (after-how-many .how-many .ensures) (after-how-many2 .how-many2 .ensures) (after-how-many3 .how-many3 .ensures)
-    (after-how-many4 .how-many4 .ensures) (after-how-many5 .how-many5 .ensures)
+    let s = c .before .before .before .before .before .before .before .before .before .before in
+    let args = at-start s .args in
+    all-forwarded (at-start s .pre) (args .table .now)
+    (lent (args .load .now) (args .store .now) (args .findings .now) (args .work .now))
+    (first s .how-many .ensures) (second s .how-many2 .ensures) (third s .how-many3 .ensures)
+    (fourth s .how-many4 .ensures) (s .how-many5 .ensures)
 
 same-length : tie.Need-same-length
-same-length c =
-    let after-t = c .before .before .before .before .before .before .before .before .before .before .before .before .before
-    .before .before .before .before .before .before in
-    after-t .t .given .1
+same-length c = search needs
 
 same-length-2 : tie.Need-same-length-2
-same-length-2 c =
-    let after-l = c .before .before .before .before .before .before .before .before .before .before .before .before .before
-    .before .before .before .before in
-    after-l .l .given .1
+same-length-2 c = search needs
 
 same-length-3 : tie.Need-same-length-3
-same-length-3 c =
-    let after-s = c .before .before .before .before .before .before .before .before .before .before .before .before .before
-    .before .before in
-    after-s .s .given .1
+same-length-3 c = search needs
 
 same-length-4 : tie.Need-same-length-4
-same-length-4 c =
-    let after-f = c .before .before .before .before .before .before .before .before .before .before .before .before .before in
-    after-f .f .given .1
+same-length-4 c = search needs
 
 same-length-5 : tie.Need-same-length-5
-same-length-5 c = c .before .before .before .before .before .before .before .before .before .before .before .w .given .1
+same-length-5 c = search needs
 
 same-length-6 : tie.Need-same-length-6
-same-length-6 c =
-    let after-run-on = c .before .before .before .before .before .before .before .before .before .before .before .before .before
-    .before .before .before .before .before .before .before in
-    after-run-on .run-on .kept .1 .1 .1 .1 .1 .0
+same-length-6 c = search needs
 
 same-length-7 : tie.Need-same-length-7
-same-length-7 c =
-    let after-run-on = c .before .before .before .before .before .before .before .before .before .before .before .before .before
-    .before .before .before .before .before .before .before in
-    after-run-on .run-on .kept .1 .1 .1 .1 .1 .1 .0
+same-length-7 c = search needs
 
 same-length-8 : tie.Need-same-length-8
-same-length-8 c =
-    let after-run-on = c .before .before .before .before .before .before .before .before .before .before .before .before .before
-    .before .before .before .before .before .before .before in
-    after-run-on .run-on .kept .1 .1 .1 .1 .1 .1 .1 .1 .1 .0
+same-length-8 c = search needs
 
 same-length-9 : tie.Need-same-length-9
-same-length-9 c =
-    let after-run-on = c .before .before .before .before .before .before .before .before .before .before .before .before .before
-    .before .before .before .before .before .before .before in
-    after-run-on .run-on .kept .1 .1 .1 .1 .1 .1 .1 .1 .1 .1 .0
+same-length-9 c = search needs
 
 same-length-10 : tie.Need-same-length-10
-same-length-10 c =
-    let after-run-on = c .before .before .before .before .before .before .before .before .before .before .before .before .before
-    .before .before .before .before .before .before .before in
-    after-run-on .run-on .kept .1 .1 .1 .1 .1 .1 .1 .1 .1 .1 .1 .0
+same-length-10 c = search needs
 
 returns : tie.Need-returns
 returns c =

@@ -1,11 +1,45 @@
 -- `edge_c::run::run_on` meets its contract. Assumes nothing.
-use mathlib.Core.Path.{ap, _∙_}
-use Prim.Native.Nat.{ℕ, _*_}
-use Rattle.driver_load.specs.Lent.{lent}
-use Rattle.edge_c.proofs.Forwarding.{forwarded-read}
+use mathlib.Core.Path.{_∙_}
+use mathlib.Core.List.{List}
+use Prim.Native.Nat.{ℕ}
+use Rattle.dictionary_layout.specs.Layout.{Dict}
+use Rattle.dictionary_layout.specs.Values.{contents}
+use Rattle.driver_load.specs.Lent.{Lent, lent}
+use borrow.Author.Needs.{needs}
+use Rattle.edge_c.proofs.Forwarding.{Passed, all-read}
 use Rattle.edge_c.proofs.Runs.{rooms, run-done}
 use Rattle.edge_c.proofs.run.run_on.Statement.{statement}
 use Rattle.edge_c.proofs.run.run_on.Tie as tie
+
+-- the state after the run, and those before it: the load is read, the table is read, the function starts
+module _ (s : tie.After-run) where
+  abbrev load-read : tie.After-read-numbers2
+  load-read = s .before .before .before .before .before .before .before .before .before
+
+  abbrev table-read : tie.After-read-numbers
+  table-read = load-read .before .before .before .before
+
+  abbrev at-start : tie.Start
+  at-start = table-read .before .before .before .before .before .before .before .before .before .before .before .before .before .before
+
+  -- the dictionary and the buffers of bytes, and the numbers that are passed for them
+  abbrev d : Dict
+  d = contents (at-start .args .table .now) (at-start .args .arena .now) (at-start .args .counters)
+
+  abbrev bytes : Lent
+  bytes = lent (at-start .args .load .now) (at-start .args .store .now) (at-start .args .findings .now) (at-start .args .work .now)
+
+  abbrev table-numbers : List ℕ
+  table-numbers = table-read .read-numbers .last .1 .0
+
+  abbrev numbers : Lent
+  numbers = lent (load-read .read-numbers2 .last .1 .0) (at-start .args .s .now) (at-start .args .f .now) (at-start .args .w .now)
+
+  passed : Passed (d .table) bytes table-numbers numbers
+  passed =
+      let p = table-read .read-numbers in
+      let q = load-read .read-numbers2 in
+      all-read (at-start .pre) (p .kept .1 .0) (p .ensures) (q .kept .1 .0) (q .ensures)
 
 read-numbers-requires : tie.Need-read-numbers-requires
 read-numbers-requires c κs = tt
@@ -18,95 +52,55 @@ run-requires c κs = tt
 
 write-all-requires : tie.Need-write-all-requires
 write-all-requires c κs =
-    let r = c .before .before .before .before .before .before .before .before .before .before .before .before .before .before
-    .before .before .before .run in
-    let q = c .before .before .before .before .before .before .before .before .before .before .before .before .before .before
-    .before .before .before .before .before .before .before .before .before .before .before .before .read-numbers2 in
-    let p = c .before .before .before .before .before .before .before .before .before .before .before .before .before .before
-    .before .before .before .before .before .before .before .before .before .before .before .before .before .before .before
-    .before .read-numbers in
-    let z = c .before .before .before .before .before .before .before .before .before .before .before .before .before .before
-    .before .before .before .before .before .before .before .before .before .before .before .before .before .before .before
-    .before .before .before .before .before .before .before .before .before .before .before .before .before .before .before in
-    let args = z .args in
-    rooms (p .last .1 .0) (q .last .1 .0) (args .s .now) (args .f .now) (args .w .now) (args .table .now)
-    (lent (args .load .now) (args .store .now) (args .findings .now) (args .work .now))
-    (forwarded-read (z .pre) (p .kept .1 .0) (q .kept .1 .0)) (λ e. p .ensures (e ∙ ap (λ (n : ℕ). 4 * n) (p .kept .1 .0)))
-    (λ e. q .ensures (e ∙ ap (λ (n : ℕ). 4 * n) (q .kept .1 .0))) (args .arena .now) (args .counters .terms)
-    (args .counters .used) (r .result) (r .ensures) (r .kept .0) (r .kept .1 .1 .1 .1 .0) (r .kept .1 .1 .1 .1 .1 .0)
+    let after-run = c .before .before .before .before .before .before .before .before .before .before .before .before
+    .before .before .before .before .before in
+    let r = after-run .run in
+    rooms (d after-run) (passed after-run) (r .result) (r .ensures) (r .kept .0) (r .kept .1 .1 .1 .1 .0) (r .kept .1 .1 .1 .1 .1 .0)
 
 same-length : tie.Need-same-length
 same-length c =
-    let after-run = c .before .before .before .before .before .before .before .before .before .before .before .before .before
-    .before .before .before .before .before .before .before .before .before .before .before .before .before in
-    let after-read-numbers = after-run .before .before .before .before .before .before .before .before .before .before .before
-    .before .before in
-    after-run .run .kept .0 ∙ after-read-numbers .read-numbers .kept .1 .0
+    let after-run = c .before .before .before .before .before .before .before .before .before .before .before .before
+    .before .before .before .before .before .before .before .before .before .before .before .before .before .before in
+    after-run .run .kept .0 ∙ table-read after-run .read-numbers .kept .1 .0
 
 same-length-2 : tie.Need-same-length-2
 same-length-2 c =
-    let after-read-numbers2 = c .before .before .before .before .before .before .before .before .before .before .before .before
-    .before .before .before .before .before .before .before .before .before .before .before .before .before .before .before
-    .before .before .before .before .before .before .before .before in
-    after-read-numbers2 .read-numbers2 .kept .1 .0
+    let after-run = c .before .before .before .before .before .before .before .before .before .before .before .before
+    .before .before .before .before .before .before .before .before .before .before .before .before .before .before in
+    load-read after-run .read-numbers2 .kept .1 .0
 
 same-length-3 : tie.Need-same-length-3
-same-length-3 c =
-    let after-run = c .before .before .before .before .before .before .before .before .before .before .before .before .before
-    .before .before .before .before .before .before .before .before .before .before .before .before .before in
-    after-run .run .kept .1 .1 .1 .1 .0
+same-length-3 c = search needs
 
 same-length-4 : tie.Need-same-length-4
-same-length-4 c =
-    let after-run = c .before .before .before .before .before .before .before .before .before .before .before .before .before
-    .before .before .before .before .before .before .before .before .before .before .before .before .before in
-    after-run .run .kept .1 .1 .1 .1 .1 .0
+same-length-4 c = search needs
 
 same-length-5 : tie.Need-same-length-5
-same-length-5 c =
-    let after-run = c .before .before .before .before .before .before .before .before .before .before .before .before .before
-    .before .before .before .before .before .before .before .before .before .before .before .before .before in
-    after-run .run .kept .1 .1 .1 .1 .1 .1 .0
+same-length-5 c = search needs
 
 same-length-6 : tie.Need-same-length-6
-same-length-6 c = c .before .before .before .before .before .before .before .before .write-all .kept .1 .1 .1 .1 .0
+same-length-6 c = search needs
 
 same-length-7 : tie.Need-same-length-7
-same-length-7 c =
-    let after-run = c .before .before .before .before .before .before .before .before .before .before .before .before .before
-    .before .before .before .before .before .before .before .before .before .before .before .before .before in
-    after-run .run .kept .1 .0
+same-length-7 c = search needs
 
 same-length-8 : tie.Need-same-length-8
-same-length-8 c = c .before .before .before .before .before .before .before .before .write-all .kept .1 .1 .1 .1 .1 .0
+same-length-8 c = search needs
 
 same-length-9 : tie.Need-same-length-9
-same-length-9 c = c .before .before .before .before .before .before .before .before .write-all .kept .1 .1 .1 .1 .1 .1 .0
+same-length-9 c = search needs
 
 same-length-10 : tie.Need-same-length-10
-same-length-10 c = c .before .before .before .before .before .before .before .before .write-all .kept .1 .1 .1 .1 .1 .1 .1 .0
+same-length-10 c = search needs
 
 returns : tie.Need-returns
 returns c =
-    let w = c .before .before .before .before .before .before .before .before .write-all in
-    let r = c .before .before .before .before .before .before .before .before .before .before .before .before .before .before
-    .before .before .before .before .before .before .before .before .before .before .before .before .run in
-    let q = c .before .before .before .before .before .before .before .before .before .before .before .before .before .before
-    .before .before .before .before .before .before .before .before .before .before .before .before .before .before .before
-    .before .before .before .before .before .before .read-numbers2 in
-    let p = c .before .before .before .before .before .before .before .before .before .before .before .before .before .before
-    .before .before .before .before .before .before .before .before .before .before .before .before .before .before .before
-    .before .before .before .before .before .before .before .before .before .before .read-numbers in
-    let z = c .before .before .before .before .before .before .before .before .before .before .before .before .before .before
-    .before .before .before .before .before .before .before .before .before .before .before .before .before .before .before
-    .before .before .before .before .before .before .before .before .before .before .before .before .before .before .before
-    .before .before .before .before .before .before .before .before .before in
-    let args = z .args in
-    run-done (p .last .1 .0) (q .last .1 .0) (args .s .now) (args .f .now) (args .w .now) (args .table .now)
-    (lent (args .load .now) (args .store .now) (args .findings .now) (args .work .now))
-    (forwarded-read (z .pre) (p .kept .1 .0) (q .kept .1 .0)) (λ e. p .ensures (e ∙ ap (λ (n : ℕ). 4 * n) (p .kept .1 .0)))
-    (λ e. q .ensures (e ∙ ap (λ (n : ℕ). 4 * n) (q .kept .1 .0))) (args .arena .now) (args .counters .terms)
-    (args .counters .used) (r .result) (r .ensures) (w .ensures .0) (w .ensures .1) (w .ensures .2) (w .ensures .3)
+    let after-write-all = c .before .before .before .before .before .before .before .before in
+    let after-run = after-write-all .before .before .before .before .before .before .before .before .before .before .before
+    .before .before .before .before .before .before .before in
+    let r = after-run .run in
+    let w = after-write-all .write-all .ensures in
+    run-done (d after-run) (passed after-run) (r .result) (r .ensures) (w .0) (w .1) (w .2) (w .3)
 
 pub run-on-spec : {M : Type 1} → statement M
 run-on-spec =

@@ -1,9 +1,12 @@
 -- `edge_c::run::write_all` meets its contract. Assumes nothing.
+use borrow.Author.Needs.{needs}
 use Rattle.edge_c.proofs.run.write_all.Statement.{statement}
 use Rattle.edge_c.proofs.run.write_all.Tie as tie
 
 write-back-requires : tie.Need-write-back-requires
-write-back-requires c κs = λ h. c .before .before .before .before .before .before .before .before .pre h .table-room
+write-back-requires c κs =
+    let at-start = c .before .before .before .before .before .before .before .before in
+    λ h. at-start .pre h .table-room
 
 write-back-requires-2 : tie.Need-write-back-requires-2
 write-back-requires-2 c κs =
@@ -20,19 +23,16 @@ clear-back-requires : tie.Need-clear-back-requires
 clear-back-requires c κs = tt
 
 same-length : tie.Need-same-length
-same-length c =
-    let after-write-back = c .before .before .before .before .before .before .before .before .before .before .before .before
-    .before .before in
-    after-write-back .write-back .kept .1 .1 .0
+same-length c = search needs
 
 same-length-2 : tie.Need-same-length-2
-same-length-2 c = c .before .before .before .before .before .before .before .before .before .before .write-back2 .kept .1 .1 .0
+same-length-2 c = search needs
 
 same-length-3 : tie.Need-same-length-3
-same-length-3 c = c .before .before .before .before .before .before .write-back3 .kept .1 .1 .0
+same-length-3 c = search needs
 
 same-length-4 : tie.Need-same-length-4
-same-length-4 c = c .before .before .clear-back .kept .1 .0
+same-length-4 c = search needs
 
 returns : tie.Need-returns
 returns c =

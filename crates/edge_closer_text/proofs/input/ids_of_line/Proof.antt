@@ -9,7 +9,8 @@ use lib.Seq.{length-take-le}
 use borrow.Author.Needs.{needs}
 use Rattle.edge_closer_text.specs.Input.{id}
 use Rattle.edge_closer_text.specs.Contracts.{part, TwoSpaces}
-use Rattle.edge_closer_text.proofs.Reading.{case-two, case-other, case-number, case-none, first-bad, second-bad, third-bad, all-good}
+use Rattle.edge_decimal.proofs.Reading.{case-number, case-none}
+use Rattle.edge_closer_text.proofs.IdLines.{case-two, case-other, first-bad, second-bad, third-bad, all-good}
 use Rattle.edge_closer_text.proofs.input.ids_of_line.Statement.{statement}
 use Rattle.edge_closer_text.proofs.input.ids_of_line.Tie as tie
 
@@ -90,13 +91,19 @@ add-second c =
     omega arith
 
 sub-number : tie.Need-sub-number
-sub-number c = let t = spaces (c .before .before .before .before .before) in omega arith
+sub-number c =
+    let state = c .before .before .before .before .before in
+    let t = spaces state in omega arith
 
 part-number-start : tie.Need-part-number-start
-part-number-start c = let t = spaces (c .before .before .before .before .before) in omega arith
+part-number-start c =
+    let state = c .before .before .before .before .before in
+    let t = spaces state in omega arith
 
 part-number-end : tie.Need-part-number-end
-part-number-end c = let t = spaces (c .before .before .before .before .before) in omega arith
+part-number-end c =
+    let state = c .before .before .before .before .before in
+    let t = spaces state in omega arith
 
 number-requires-2 : tie.Need-number-requires-2
 number-requires-2 c κs = search needs
@@ -124,7 +131,9 @@ add-third c =
     omega arith
 
 sub-number-2 : tie.Need-sub-number-2
-sub-number-2 c = let t = spaces (c .before .before .before .before .before .before .before .before .before .before) in omega arith
+sub-number-2 c =
+    let state = c .before .before .before .before .before .before .before .before .before .before in
+    let t = spaces state in omega arith
 
 part-number-start-2 : tie.Need-part-number-start-2
 part-number-start-2 c =

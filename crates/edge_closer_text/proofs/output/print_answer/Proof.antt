@@ -1,7 +1,7 @@
 -- `output::print_answer` meets its contract. Assumes nothing.
 use native.Mathlib.Omega.{arith}
 use borrow.Author.Needs.{needs}
-use Rattle.edge_closer_text.proofs.Writing.{triples-fit, findings-fit, answer-whole}
+use Rattle.edge_closer_text.proofs.Printing.{triples-fit, findings-fit, answer-whole}
 use Rattle.edge_closer_text.proofs.output.print_answer.Statement.{statement}
 use Rattle.edge_closer_text.proofs.output.print_answer.Tie as tie
 

@@ -4,7 +4,7 @@ use lib.ListN.{length-set}
 use mathlib.Core.Path.{_∙_}
 use borrow.Author.Needs.{needs}
 use Rattle.edge_decimal.proofs.Writing.{wrote-length, wrote-byte, wrote-then}
-use Rattle.edge_closer_text.proofs.Writing.{number-fits, byte-fits}
+use Rattle.edge_closer_text.proofs.Printing.{number-fits, byte-fits}
 use Rattle.edge_closer_text.proofs.output.print_bad_line.Statement.{statement}
 use Rattle.edge_closer_text.proofs.output.print_bad_line.Tie as tie
 

@@ -1,7 +1,7 @@
 -- `output::print_name` meets its contract. Assumes nothing.
 use borrow.Author.Needs.{needs}
 use Rattle.edge_decimal.proofs.Writing.{wrote-then}
-use Rattle.edge_closer_text.proofs.Writing.{number-fits}
+use Rattle.edge_closer_text.proofs.Printing.{number-fits}
 use Rattle.edge_closer_text.proofs.output.print_name.Statement.{statement}
 use Rattle.edge_closer_text.proofs.output.print_name.Tie as tie
 

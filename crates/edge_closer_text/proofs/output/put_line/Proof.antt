@@ -80,10 +80,14 @@ loop-again c =
     (c .ending .ensures)
 
 same-length : tie.Need-same-length Inv-loop μ-loop
-same-length c = lined-length (c .before .before .before .before .pre) (c .before .loop .inv)
+same-length c =
+    let at-start = c .before .before .before .before in
+    lined-length (at-start .pre) (c .before .loop .inv)
 
 returns : tie.Need-returns Inv-loop μ-loop
-returns c = lined-end (c .before .before .before .before .pre) (c .before .loop .inv) (c .loop-test .left)
+returns c =
+    let at-start = c .before .before .before .before in
+    lined-end (at-start .pre) (c .before .loop .inv) (c .loop-test .left)
 
 pub put-line-spec : {M : Type 1} → statement M
 put-line-spec =

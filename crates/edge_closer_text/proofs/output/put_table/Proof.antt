@@ -2,7 +2,8 @@
 use Prim.Native.Nat.{_-_}
 use native.Mathlib.Omega.{arith}
 use borrow.Author.Needs.{needs}
-use Rattle.edge_closer_text.proofs.Writing.{Tabled, tabled-start, tabled-length, tabled-row, tabled-fits, tabled-step, tabled-end}
+use Rattle.edge_closer_text.proofs.Writing.{Tabled, tabled-start, tabled-length, tabled-row, tabled-fits, tabled-step}
+use Rattle.edge_closer_text.proofs.Writing.{tabled-end}
 use Rattle.edge_closer_text.proofs.output.put_table.Statement.{statement}
 use Rattle.edge_closer_text.proofs.output.put_table.Tie as tie
 
@@ -66,10 +67,14 @@ loop-again c =
     (λ k. after-shared-slice-known .shared-slice-known .given k .fits) (after-put-line .put-line .ensures)
 
 same-length : tie.Need-same-length Inv-loop μ-loop
-same-length c = tabled-length (c .before .before .before .before .pre) (c .before .loop .inv)
+same-length c =
+    let at-start = c .before .before .before .before in
+    tabled-length (at-start .pre) (c .before .loop .inv)
 
 returns : tie.Need-returns Inv-loop μ-loop
-returns c = tabled-end (c .before .before .before .before .pre) (c .before .loop .inv) (c .loop-test .left)
+returns c =
+    let at-start = c .before .before .before .before in
+    tabled-end (at-start .pre) (c .before .loop .inv) (c .loop-test .left)
 
 pub put-table-spec : {M : Type 1} → statement M
 put-table-spec =

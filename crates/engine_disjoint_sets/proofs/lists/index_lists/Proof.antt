@@ -13,10 +13,14 @@ abbrev μ-loop : tie.MeasureT-loop
 μ-loop ix₀ work store n j₀ ix j = n - j
 
 loop-holds : tie.Need-loop-holds Inv-loop μ-loop
-loop-holds c = listing-start (c .before .before .before .pre)
+loop-holds c =
+    let at-start = c .before .before .before in
+    listing-start (at-start .pre)
 
 row-requires : tie.Need-row-requires Inv-loop μ-loop
-row-requires c κs = omega (arith, (c .before .before .before .before .before .before .pre .long))
+row-requires c κs =
+    let at-start = c .before .before .before .before .before .before in
+    omega (arith, (at-start .pre .long))
 
 enter-row-requires : tie.Need-enter-row-requires Inv-loop μ-loop
 enter-row-requires c κs =

@@ -23,7 +23,9 @@ loop-holds : tie.Need-loop-holds Inv-loop μ-loop
 loop-holds c = joining-start (c .before .before .alone .ensures)
 
 row-requires : tie.Need-row-requires Inv-loop μ-loop
-row-requires c κs = omega (arith, (c .before .before .before .before .before .before .before .before .before .pre .2 .long))
+row-requires c κs =
+    let at-start = c .before .before .before .before .before .before .before .before .before in
+    omega (arith, (at-start .pre .2 .long))
 
 join-requires : tie.Need-join-requires Inv-loop μ-loop
 join-requires c κs =
@@ -51,7 +53,9 @@ loop-again c =
     (after-join .join .kept .0) (after-join .join .ensures)
 
 same-length : tie.Need-same-length Inv-loop μ-loop
-same-length c = (c .before .loop .inv .same-length) ∙ (c .before .before .before .before .alone .kept .0)
+same-length c =
+    let after-alone = c .before .before .before .before in
+    (c .before .loop .inv .same-length) ∙ (after-alone .alone .kept .0)
 
 returns : tie.Need-returns Inv-loop μ-loop
 returns c = joining-end (c .before .loop .inv) (omega arith)

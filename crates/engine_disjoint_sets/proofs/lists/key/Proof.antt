@@ -17,7 +17,7 @@ wide-requires c κs = search needs
 returns-2 : tie.Need-returns-2
 returns-2 c =
     let at-start = c .before .before .before .before in
-    c .wide .ensures .is ∙ sym (key-first (triple-of (at-start .args .t)) (at-start .args .x .0) (c .before .if1 .left))
+    c .wide .ensures ∙ sym (key-first (triple-of (at-start .args .t)) (at-start .args .x .0) (c .before .if1 .left))
 
 pub key-spec : {M : Type 1} → statement M
 key-spec = tie.close (tie.spec returns wide-requires returns-2)

@@ -16,7 +16,9 @@ loop-holds : tie.Need-loop-holds Inv-loop μ-loop
 loop-holds c = counting-start (c .before .pre .0)
 
 cast-t6 : tie.Need-cast-t6 Inv-loop μ-loop
-cast-t6 c = omega (arith, (c .before .before .before .pre .1 .few))
+cast-t6 c =
+    let at-start = c .before .before .before in
+    omega (arith, (at-start .pre .1 .few))
 
 uri2idx-requires : tie.Need-uri2idx-requires Inv-loop μ-loop
 uri2idx-requires c κs = search needs

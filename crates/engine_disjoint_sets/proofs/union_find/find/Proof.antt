@@ -1,6 +1,7 @@
 -- `engine_disjoint_sets::find` meets its contract. Invariant: the roots are as they were, and `at` has the root of p. Assumes nothing.
 use native.Mathlib.Omega.{arith}
-use Rattle.engine_disjoint_sets.proofs.Loops.{Climbing, climbing-start, climbing-end, climbing-above, climbing-less, climbing-step}
+use Rattle.engine_disjoint_sets.proofs.Loops.{Climbing, climbing-start, climbing-end, climbing-above, climbing-less}
+use Rattle.engine_disjoint_sets.proofs.Loops.{climbing-step}
 use Rattle.engine_disjoint_sets.proofs.union_find.find.Statement.{statement}
 use Rattle.engine_disjoint_sets.proofs.union_find.find.Tie as tie
 
@@ -17,7 +18,9 @@ up-requires : tie.Need-up-requires Inv-loop μ-loop
 up-requires c κs = omega (arith, (c .before .loop .inv .place .within))
 
 same-length : tie.Need-same-length Inv-loop μ-loop
-same-length c = (c .before .before .before .before .before .loop .inv .kept .same-length)
+same-length c =
+    let at-loop = c .before .before .before .before .before in
+    (at-loop .loop .inv .kept .same-length)
 
 returns : tie.Need-returns Inv-loop μ-loop
 returns c =

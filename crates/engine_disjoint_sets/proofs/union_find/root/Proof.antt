@@ -1,5 +1,7 @@
 -- `engine_disjoint_sets::root` meets its contract. Assumes nothing.
 use borrow.Author.Needs.{needs}
+use Prim.Native.Nat.{_+_}
+use native.Mathlib.Omega.{arith}
 use Rattle.engine_disjoint_sets.proofs.union_find.root.Statement.{statement}
 use Rattle.engine_disjoint_sets.proofs.union_find.root.Tie as tie
 
@@ -16,7 +18,12 @@ wide-requires : tie.Need-wide-requires
 wide-requires c κs = search needs
 
 returns : tie.Need-returns
-returns c = (c .wide .ensures)
+returns c =
+    let at-start = c .before .before .before in
+    record {
+      is = c .wide .ensures;
+      small = omega (arith, c .wide .ensures, c .before .shared-slice-known2 .given (at-start .args .p .0 + 1));
+    }
 
 pub root-spec : {M : Type 1} → statement M
 root-spec = tie.close (tie.spec add-wide mul-wide shared-slice-read-wide wide-requires returns)

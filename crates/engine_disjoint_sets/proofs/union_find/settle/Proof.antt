@@ -2,7 +2,8 @@
 -- were. Assumes nothing.
 use native.Mathlib.Omega.{arith}
 use Prim.Native.Nat.{_-_}
-use Rattle.engine_disjoint_sets.proofs.Loops.{Settling, settling-start, settling-ready, settling-small, settling-step, settling-end}
+use Rattle.engine_disjoint_sets.proofs.Loops.{Settling, settling-start, settling-ready, settling-small, settling-step}
+use Rattle.engine_disjoint_sets.proofs.Loops.{settling-end}
 use borrow.Author.Needs.{needs}
 use Rattle.engine_disjoint_sets.proofs.union_find.settle.Statement.{statement}
 use Rattle.engine_disjoint_sets.proofs.union_find.settle.Tie as tie
@@ -17,7 +18,9 @@ loop-holds : tie.Need-loop-holds Inv-loop μ-loop
 loop-holds c = settling-start (c .before .pre .0)
 
 cast-t7 : tie.Need-cast-t7 Inv-loop μ-loop
-cast-t7 c = omega (arith, (c .before .before .before .pre .1 .few))
+cast-t7 c =
+    let at-start = c .before .before .before in
+    omega (arith, (at-start .pre .1 .few))
 
 uri2idx-requires : tie.Need-uri2idx-requires Inv-loop μ-loop
 uri2idx-requires c κs = search needs

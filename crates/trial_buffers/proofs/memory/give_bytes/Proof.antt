@@ -1,7 +1,7 @@
 -- `trial_buffers::memory::give_bytes` meets its contract. Assumes nothing.
-use Prim.Native.Nat.{ℕ, _-_}
-use mathlib.Core.Path.{ap, _∙_}
-use lib.ListN.{length, set}
+use Prim.Native.Nat.{_-_}
+use native.Mathlib.Omega.{arith}
+use lib.ListN.{length}
 use borrow.Author.Needs.{needs}
 use Rattle.trial_buffers.proofs.Filling.{Gave, give-start, give-more, give-end}
 use Rattle.trial_buffers.proofs.memory.give_bytes.Statement.{statement}
@@ -20,11 +20,13 @@ loop-holds c = give-start _ _ _
 wrapping-add-usize-requires : tie.Need-wrapping-add-usize-requires Inv-loop μ-loop
 wrapping-add-usize-requires c κs = search needs
 
-shared-slice-read-wide : tie.Need-shared-slice-read-wide Inv-loop μ-loop
-shared-slice-read-wide c = search needs
+shared-slice-read-set-cell : tie.Need-shared-slice-read-set-cell Inv-loop μ-loop
+shared-slice-read-set-cell c = search needs
 
-wide-requires : tie.Need-wide-requires Inv-loop μ-loop
-wide-requires c κs = search needs
+cast-set-cell : tie.Need-cast-set-cell Inv-loop μ-loop
+cast-set-cell c =
+    let at-loop = c .before .before .before .before in
+    omega (arith, c .shared-slice-known2 .given (at-loop .loop .i))
 
 set-cell-requires : tie.Need-set-cell-requires Inv-loop μ-loop
 set-cell-requires c κs = search needs
@@ -38,14 +40,10 @@ loop-less c = search needs
 loop-again : tie.Need-loop-again Inv-loop μ-loop
 loop-again c =
     let after-set-cell = c .before .before in
-    let after-wide = after-set-cell .before in
-    let after-wrapping-add-usize = after-wide .before .before in
+    let after-wrapping-add-usize = after-set-cell .before .before in
     let at-loop-test = after-wrapping-add-usize .before .before in
-    let at-loop = at-loop-test .before in
-    give-more (at-loop .loop .inv) (at-loop-test .loop-test .taken) (after-wrapping-add-usize .wrapping-add-usize .ensures)
-    (after-set-cell .set-cell .ensures
-    ∙ ap (λ (v : ℕ). set (at-loop .loop .memory) (after-wrapping-add-usize .wrapping-add-usize .result) v)
-    (after-wide .wide .ensures))
+    give-more (at-loop-test .before .loop .inv) (at-loop-test .loop-test .taken)
+    (after-wrapping-add-usize .wrapping-add-usize .ensures) (after-set-cell .set-cell .ensures)
 
 same-length : tie.Need-same-length Inv-loop μ-loop
 same-length c = c .before .loop .inv .long
@@ -61,8 +59,8 @@ give-bytes-spec =
     μ-loop
     loop-holds
     wrapping-add-usize-requires
-    shared-slice-read-wide
-    wide-requires
+    shared-slice-read-set-cell
+    cast-set-cell
     set-cell-requires
     add-i
     loop-less

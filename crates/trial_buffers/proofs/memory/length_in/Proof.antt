@@ -12,12 +12,14 @@ cast-length c = search needs
 
 returns : tie.Need-returns
 returns c =
-    let args = c .before .before .before .args in
+    let at-start = c .before .before .before in
+    let args = at-start .args in
     below-most (args .memory .now) (args .at) (args .most) (c .before .cell .ensures) (c .if1 .taken)
 
 returns-2 : tie.Need-returns-2
 returns-2 c =
-    let args = c .before .before .before .args in
+    let at-start = c .before .before .before in
+    let args = at-start .args in
     at-most (args .memory .now) (args .at) (args .most) (c .before .cell .ensures) (c .if1 .left)
 
 pub length-in-spec : {M : Type 1} → statement M

@@ -3,6 +3,7 @@ use borrow.Author.Needs.{needs}
 use Prim.Native.Nat.{ℕ}
 use mathlib.Core.Path.{_∙_}
 use lib.ListN.{length-replicate}
+use Rattle.trial_replay.specs.Cells.{table-cells, arena-cells, table-room, arena-room}
 use Rattle.trial_replay.proofs.Making.{numbers-taken, bytes-taken, made-is}
 use Rattle.trial_replay.proofs.calls.make.Statement.{statement}
 use Rattle.trial_replay.proofs.calls.make.Tie as tie
@@ -53,10 +54,10 @@ returns c =
     let at-start = after-take-numbers .before .before .before .before in
     let args = at-start .args in
     let m = args .memory .now in
-    made-is (args .call) m (numbers-taken m 32 320
-    (after-take-numbers .take-numbers .kept .1 .1 .0 ∙ length-replicate {A = ℕ} 320 0)
+    made-is (args .call) m (numbers-taken m table-cells table-room
+    (after-take-numbers .take-numbers .kept .1 .1 .0 ∙ length-replicate {A = ℕ} table-room 0)
     (after-take-numbers .take-numbers .ensures))
-    (bytes-taken m 352 9600 (after-take-bytes .take-bytes .kept .1 .1 .0 ∙ length-replicate {A = ℕ} 9600 0)
+    (bytes-taken m arena-cells arena-room (after-take-bytes .take-bytes .kept .1 .1 .0 ∙ length-replicate {A = ℕ} arena-room 0)
     (after-take-bytes .take-bytes .ensures)) (after-make-lent .make-lent .ensures) (after-give-numbers .give-numbers .ensures)
     (after-give-bytes .give-bytes .ensures)
 

@@ -43,7 +43,8 @@ returns c =
     let after-make-on = c .before .before .before .before .before .before in
     let after-length-in2 = after-make-on .before .before .before .before in
     let after-length-in = after-length-in2 .before .before in
-    let args = after-length-in .before .before .before .before .before .args in
+    let at-start = after-length-in .before .before .before .before .before in
+    let args = at-start .args in
     made-lent-is (args .call) (held (args .memory .now) (args .table .now) (args .arena .now))
     (after-length-in .length-in .ensures .0) (after-length-in2 .length-in2 .ensures .0) (after-make-on .make-on .ensures)
 

@@ -41,7 +41,8 @@ returns c =
     let after-lookup = after-set-cell .before .before in
     let after-cell = after-lookup .before .before .before in
     let after-counters-in = after-cell .before .before in
-    let args = after-counters-in .before .before .before .before .before .args in
+    let at-start = after-counters-in .before .before .before .before .before in
+    let args = at-start .args in
     lookup-is (args .memory .now) (args .table .now) (args .arena .now) (after-counters-in .counters-in .ensures)
     (after-cell .cell .ensures) (after-lookup .lookup .ensures .answers) (after-set-cell .set-cell .ensures)
     (after-narrow .narrow .ensures) (after-set-cell2 .set-cell2 .ensures) (after-give-bytes .give-bytes .ensures)

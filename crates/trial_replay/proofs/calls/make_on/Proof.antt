@@ -22,7 +22,8 @@ returns : tie.Need-returns
 returns c =
     let after-make-start = c .before .before .before .before .before .before in
     let at-if1 = after-make-start .before .before .before .before in
-    let args = at-if1 .before .before .before .before .args in
+    let at-start = at-if1 .before .before .before .before in
+    let args = at-start .args in
     on-start (args .call) (held (args .memory .now) (args .table .now) (args .arena .now)) (at-if1 .if1 .taken)
     (after-make-start .make-start .ensures)
 
@@ -43,7 +44,8 @@ returns-2 c =
     let after-make-put = c .before .before .before .before .before .before in
     let at-if2 = after-make-put .before .before .before .before in
     let at-if1 = at-if2 .before in
-    let args = at-if1 .before .before .before .before .args in
+    let at-start = at-if1 .before .before .before .before in
+    let args = at-start .args in
     on-put (args .call) (held (args .memory .now) (args .table .now) (args .arena .now)) (at-if1 .if1 .left) (at-if2 .if2 .taken)
     (after-make-put .make-put .ensures)
 
@@ -65,7 +67,8 @@ returns-3 c =
     let at-if3 = after-make-lookup .before .before .before .before in
     let at-if2 = at-if3 .before in
     let at-if1 = at-if2 .before in
-    let args = at-if1 .before .before .before .before .args in
+    let at-start = at-if1 .before .before .before .before in
+    let args = at-start .args in
     on-lookup (args .call) (held (args .memory .now) (args .table .now) (args .arena .now)) (at-if1 .if1 .left)
     (at-if2 .if2 .left) (at-if3 .if3 .taken) (after-make-lookup .make-lookup .ensures)
 
@@ -88,7 +91,8 @@ returns-4 c =
     let at-if3 = at-if4 .before in
     let at-if2 = at-if3 .before in
     let at-if1 = at-if2 .before in
-    let args = at-if1 .before .before .before .before .args in
+    let at-start = at-if1 .before .before .before .before in
+    let args = at-start .args in
     on-run (args .call) (held (args .memory .now) (args .table .now) (args .arena .now)) (at-if1 .if1 .left) (at-if2 .if2 .left)
     (at-if3 .if3 .left) (at-if4 .if4 .taken) (after-make-run .make-run .ensures)
 
@@ -96,7 +100,8 @@ returns-5 : tie.Need-returns-5
 returns-5 c =
     let at-if2 = c .before .before in
     let at-if1 = at-if2 .before in
-    let args = at-if1 .before .before .before .before .args in
+    let at-start = at-if1 .before .before .before .before in
+    let args = at-start .args in
     on-none (args .call) (held (args .memory .now) (args .table .now) (args .arena .now)) (at-if1 .if1 .left) (at-if2 .if2 .left)
     (c .before .if3 .left) (c .if4 .left) refl
 

@@ -3,6 +3,7 @@ use borrow.Author.Needs.{needs}
 use Prim.Native.Nat.{ℕ}
 use mathlib.Core.Path.{_∙_}
 use lib.ListN.{length-replicate}
+use Rattle.trial_replay.specs.Cells.{term-cells, term-room}
 use Rattle.trial_replay.proofs.Making.{bytes-taken}
 use Rattle.trial_replay.proofs.calls.make_put.Statement.{statement}
 use Rattle.trial_replay.proofs.calls.make_put.Tie as tie
@@ -31,10 +32,11 @@ same-length-3 c = search needs
 returns : tie.Need-returns
 returns c =
     let after-put-term = c .before .before .before .before .before .before in
-    let taken = after-put-term .before .before .before .before .before .before .take-bytes in
-    let args = after-put-term .before .before .before .before .before .before .before .before .before .before .before .before
-    .args in
-    let bytes = bytes-taken (args .memory .now) 9952 4100 (taken .kept .1 .1 .0 ∙ length-replicate {A = ℕ} 4100 0)
+    let after-take-bytes = after-put-term .before .before .before .before .before .before in
+    let taken = after-take-bytes .take-bytes in
+    let at-start = after-take-bytes .before .before .before .before .before .before in
+    let args = at-start .args in
+    let bytes = bytes-taken (args .memory .now) term-cells term-room (taken .kept .1 .1 .0 ∙ length-replicate {A = ℕ} term-room 0)
     (taken .ensures) in
     rw (← bytes) (after-put-term .put-term .ensures)
 

@@ -2,6 +2,7 @@
 use borrow.Author.Needs.{needs}
 use Prim.Native.Nat.{ℕ}
 use lib.ListN.{length-replicate}
+use Rattle.trial_replay.specs.Cells.{store-room, findings-room, work-room}
 use Rattle.trial_replay.specs.Made.{held}
 use Rattle.trial_replay.proofs.Making.{run-made-is}
 use Rattle.trial_replay.proofs.calls.make_run.Statement.{statement}
@@ -53,9 +54,10 @@ returns c =
     let after-give-numbers = after-give-numbers2 .before .before .before .before .before in
     let after-run-loaded = after-give-numbers .before .before .before .before .before .before .before .before .before .before
     .before .before in
-    let args = after-run-loaded .before .before .before .before .before .before .before .before .before .before .args in
-    run-made-is (held (args .memory .now) (args .table .now) (args .arena .now)) (length-replicate {A = ℕ} 2100 0)
-    (length-replicate {A = ℕ} 500 0) (length-replicate {A = ℕ} 200 0) (after-run-loaded .run-loaded .ensures)
+    let at-start = after-run-loaded .before .before .before .before .before .before .before .before .before .before in
+    let args = at-start .args in
+    run-made-is (held (args .memory .now) (args .table .now) (args .arena .now)) (length-replicate {A = ℕ} store-room 0)
+    (length-replicate {A = ℕ} findings-room 0) (length-replicate {A = ℕ} work-room 0) (after-run-loaded .run-loaded .ensures)
     (after-give-numbers .give-numbers .ensures) (after-give-numbers2 .give-numbers2 .ensures)
     (after-give-numbers3 .give-numbers3 .ensures)
 

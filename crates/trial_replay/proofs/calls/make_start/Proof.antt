@@ -23,7 +23,8 @@ returns : tie.Need-returns
 returns c =
     let after-answer = c .before .before in
     let after-start = after-answer .before .before .before .before .before .before .before in
-    let args = after-start .before .before .before .before .before .before .args in
+    let at-start = after-start .before .before .before .before .before .before in
+    let args = at-start .args in
     start-is (args .memory .now) (args .table .now) (args .arena .now) (after-start .start .ensures)
     (after-answer .answer .ensures)
 

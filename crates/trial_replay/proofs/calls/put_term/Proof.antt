@@ -45,7 +45,8 @@ returns c =
     let after-length-in = after-put-by-value .before .before .before .before in
     let after-cell = after-length-in .before .before in
     let after-counters-in = after-cell .before .before in
-    let args = after-counters-in .before .before .before .before .before .before .args in
+    let at-start = after-counters-in .before .before .before .before .before .before in
+    let args = at-start .args in
     put-is (args .memory .now) (args .table .now) (args .arena .now) (after-counters-in .counters-in .ensures) (args .term .now)
     (after-cell .cell .ensures) (after-length-in .length-in .ensures .0) (after-put-by-value .put-by-value .ensures)
     (after-set-cell .set-cell .ensures) (after-answer .answer .ensures)

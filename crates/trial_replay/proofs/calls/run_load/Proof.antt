@@ -38,7 +38,8 @@ returns c =
     let after-run = after-answer-run .before .before .before .before .before .before .before .before .before .before .before
     .before .before .before in
     let after-counters-in = after-run .before .before .before .before .before .before in
-    let args = after-counters-in .before .before .before .before .before .before .before .before .before .args in
+    let at-start = after-counters-in .before .before .before .before .before .before .before .before .before in
+    let args = at-start .args in
     run-is (args .memory .now) (args .table .now) (args .arena .now) (after-counters-in .counters-in .ensures)
     (lent (args .load .now) (args .store .now) (args .findings .now) (args .work .now)) (after-run .run .ensures)
     (after-answer-run .answer-run .ensures)

@@ -3,6 +3,7 @@ use borrow.Author.Needs.{needs}
 use Prim.Native.Nat.{ℕ}
 use mathlib.Core.Path.{_∙_}
 use lib.ListN.{length-replicate}
+use Rattle.trial_replay.specs.Cells.{store-cells, findings-cells, work-cells, load-cells, load-room}
 use Rattle.trial_replay.specs.Made.{held}
 use Rattle.trial_replay.proofs.Making.{numbers-taken, run-taken-is}
 use Rattle.trial_replay.proofs.calls.run_loaded.Statement.{statement}
@@ -61,11 +62,11 @@ returns c =
     let args = at-start .args in
     let m = args .memory .now in
     run-taken-is (held m (args .table .now) (args .arena .now)) _ _ _
-    (numbers-taken m 20952 49160 (after-take-numbers .take-numbers .kept .1 .1 .0 ∙ length-replicate {A = ℕ} 49160 0)
+    (numbers-taken m load-cells load-room (after-take-numbers .take-numbers .kept .1 .1 .0 ∙ length-replicate {A = ℕ} load-room 0)
     (after-take-numbers .take-numbers .ensures))
-    (numbers-taken m 18152 _ (after-store .store .given) (after-take-numbers2 .take-numbers2 .ensures))
-    (numbers-taken m 20252 _ (after-findings .findings .given) (after-take-numbers3 .take-numbers3 .ensures))
-    (numbers-taken m 20752 _ (after-work .work .given) (after-take-numbers4 .take-numbers4 .ensures))
+    (numbers-taken m store-cells _ (after-store .store .given) (after-take-numbers2 .take-numbers2 .ensures))
+    (numbers-taken m findings-cells _ (after-findings .findings .given) (after-take-numbers3 .take-numbers3 .ensures))
+    (numbers-taken m work-cells _ (after-work .work .given) (after-take-numbers4 .take-numbers4 .ensures))
     (after-run-lent .run-lent .ensures)
 
 pub run-loaded-spec : {M : Type 1} → statement M

@@ -13,8 +13,8 @@ read-number-requires-2 c κs = search needs
 make-requires : tie.Need-make-requires
 make-requires c κs = search needs
 
-same-requires : tie.Need-same-requires
-same-requires c κs = search needs
+same-numbers-requires : tie.Need-same-numbers-requires
+same-numbers-requires c κs = search needs
 
 both-requires : tie.Need-both-requires
 both-requires c κs = search needs
@@ -35,13 +35,14 @@ returns : tie.Need-returns
 returns c =
     let after-one-if = c .before .before in
     let after-both = after-one-if .before .before in
-    let after-same = after-both .before in
-    let after-make = after-same .before .before .before .before in
+    let after-same-numbers = after-both .before in
+    let after-make = after-same-numbers .before .before .before .before in
     let after-read-number2 = after-make .before .before in
     let after-read-number = after-read-number2 .before in
-    let args = after-read-number .before .before .before .before .args in
+    let at-start = after-read-number .before .before .before .before in
+    let args = at-start .args in
     call-is (args .text .now) (args .at) (args .memory .now) (args .expected .now) (after-read-number .read-number .ensures)
-    (after-read-number2 .read-number2 .ensures) (after-make .make .ensures) (after-same .same .ensures)
+    (after-read-number2 .read-number2 .ensures) (after-make .make .ensures) (after-same-numbers .same-numbers .ensures)
     (after-both .both .ensures) (after-one-if .one-if .ensures) (c .before .is-difference .ensures) (c .one-if2 .ensures)
 
 pub call-spec : {M : Type 1} → statement M
@@ -51,7 +52,7 @@ call-spec =
     read-number-requires
     read-number-requires-2
     make-requires
-    same-requires
+    same-numbers-requires
     both-requires
     one-if-requires
     is-difference-requires

@@ -21,7 +21,8 @@ returns c =
     let after-write-cells2 = c .before .before in
     let after-write-cells = after-write-cells2 .before .before .before .before in
     let at-if1 = after-write-cells .before .before in
-    let args = at-if1 .before .before .before .before .args in
+    let at-start = at-if1 .before .before .before .before in
+    let args = at-start .args in
     writes-both (args .line) (args .text .now) (args .at) (args .memory .now) (args .expected .now) (at-if1 .if1 .taken)
     (after-write-cells .write-cells .ensures) (after-write-cells2 .write-cells2 .ensures)
 
@@ -36,7 +37,8 @@ returns-2 c =
     let after-write-cells3 = c .before .before in
     let at-if2 = after-write-cells3 .before .before in
     let at-if1 = at-if2 .before in
-    let args = at-if1 .before .before .before .before .args in
+    let at-start = at-if1 .before .before .before .before in
+    let args = at-start .args in
     writes (args .line) (args .text .now) (args .at) (args .memory .now) (args .expected .now) (at-if1 .if1 .left)
     (at-if2 .if2 .taken) (after-write-cells3 .write-cells3 .ensures)
 
@@ -59,7 +61,8 @@ returns-3 c =
     let at-if3 = after-fill-cells .before .before in
     let at-if2 = at-if3 .before in
     let at-if1 = at-if2 .before in
-    let args = at-if1 .before .before .before .before .args in
+    let at-start = at-if1 .before .before .before .before in
+    let args = at-start .args in
     fills-both (args .line) (args .text .now) (args .at) (args .memory .now) (args .expected .now) (at-if1 .if1 .left)
     (at-if2 .if2 .left) (at-if3 .if3 .taken) (after-fill-cells .fill-cells .ensures) (after-fill-cells2 .fill-cells2 .ensures)
 
@@ -75,7 +78,8 @@ returns-4 c =
     let at-if3 = after-fill-cells3 .before .before in
     let at-if2 = at-if3 .before in
     let at-if1 = at-if2 .before in
-    let args = at-if1 .before .before .before .before .args in
+    let at-start = at-if1 .before .before .before .before in
+    let args = at-start .args in
     fills (args .line) (args .text .now) (args .at) (args .memory .now) (args .expected .now) (at-if1 .if1 .left)
     (at-if2 .if2 .left) (at-if3 .if3 .left) (after-fill-cells3 .fill-cells3 .ensures)
 

@@ -33,10 +33,12 @@ same-length c = search needs
 
 returns : tie.Need-returns
 returns c =
-    let fill = c .before .before .before .fill in
+    let after-fill = c .before .before .before in
+    let fill = after-fill .fill in
     let after-read-number = c .before .before .before .before .before in
     let span = after-read-number .before .read-span .ensures in
-    let args = after-read-number .before .before .before .before .args in
+    let at-start = after-read-number .before .before .before .before in
+    let args = at-start .args in
     filled-is (args .text .now) (args .at) (args .memory .now) (span .0) (span .1) (span .2) (fill .last .0) (fill .kept .0)
     (after-read-number .read-number .ensures) (c .both .ensures) (fill .ensures)
 

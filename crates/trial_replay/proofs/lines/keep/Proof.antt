@@ -20,7 +20,8 @@ returns : tie.Need-returns
 returns c =
     let taken = c .before .before .take-numbers in
     let at-if1 = c .before .before .before .before .before in
-    let args = at-if1 .before .before .before .before .args in (
+    let at-start = at-if1 .before .before .before .before in
+    let args = at-start .args in (
       refl,
       saves (args .line) (memories (args .memory .now) (args .expected .now) (args .saved .now)) (at-if1 .if1 .taken)
           (numbers-taken (args .memory .now) 0 _ (taken .kept .1 .1 .0) (taken .ensures)),
@@ -44,9 +45,11 @@ same-length-5 c = search needs
 returns-2 : tie.Need-returns-2
 returns-2 c =
     let expected = c .before .before .take-numbers3 in
-    let memory = c .before .before .before .before .before .before .before .take-numbers2 in
+    let after-take-numbers2 = c .before .before .before .before .before .before .before in
+    let memory = after-take-numbers2 .take-numbers2 in
     let at-if1 = c .before .before .before .before .before .before .before .before .before .before in
-    let args = at-if1 .before .before .before .before .args in (
+    let at-start = at-if1 .before .before .before .before in
+    let args = at-start .args in (
       refl,
       restores (args .line) (memories (args .memory .now) (args .expected .now) (args .saved .now)) (at-if1 .if1 .left)
           (numbers-taken (args .saved .now) 0 _ (memory .kept .1 .1 .0) (memory .ensures))

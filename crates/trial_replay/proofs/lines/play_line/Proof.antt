@@ -21,7 +21,8 @@ returns : tie.Need-returns
 returns c =
     let after-edit = c .before .before .before .before .before in
     let at-if1 = after-edit .before .before .before in
-    let args = at-if1 .before .before .before .before .before .args in
+    let at-start = at-if1 .before .before .before .before .before in
+    let args = at-start .args in
     plays-edit (args .text .now) (args .line) (memories (args .memory .now) (args .expected .now) (args .saved .now))
     (at-if1 .if1 .taken) (after-edit .edit .ensures) (c .quiet .ensures)
 
@@ -39,7 +40,8 @@ returns-2 c =
     let after-call = c .before .before in
     let at-if2 = after-call .before .before .before in
     let at-if1 = at-if2 .before in
-    let args = at-if1 .before .before .before .before .before .args in
+    let at-start = at-if1 .before .before .before .before .before in
+    let args = at-start .args in
     plays-call (args .text .now) (args .line) (memories (args .memory .now) (args .expected .now) (args .saved .now))
     (at-if1 .if1 .left) (at-if2 .if2 .taken) (after-call .call .ensures)
 
@@ -63,7 +65,8 @@ returns-3 c =
     let after-keep = c .before .before .before .before .before .before .before in
     let at-if2 = after-keep .before .before .before .before in
     let at-if1 = at-if2 .before in
-    let args = at-if1 .before .before .before .before .before .args in
+    let at-start = at-if1 .before .before .before .before .before in
+    let args = at-start .args in
     plays-keep (args .text .now) (args .line) (memories (args .memory .now) (args .expected .now) (args .saved .now))
     (at-if1 .if1 .left) (at-if2 .if2 .left) (after-keep .keep .ensures .0) (c .quiet2 .ensures) (after-keep .keep .ensures .1)
 

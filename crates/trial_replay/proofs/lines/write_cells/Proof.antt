@@ -28,8 +28,10 @@ same-length c = search needs
 returns : tie.Need-returns
 returns c =
     let read = c .before .before .read-row in
-    let span = c .before .before .before .before .read-span .ensures in
-    let args = c .before .before .before .before .before .before .before .args in
+    let after-read-span = c .before .before .before .before in
+    let span = after-read-span .read-span .ensures in
+    let at-start = c .before .before .before .before .before .before .before in
+    let args = at-start .args in
     written-is (args .text .now) (args .at) (args .memory .now) (span .0) (span .1) (span .2) (read .last .1 .1 .0)
     (read .kept .1 .1 .0) (read .ensures .0) (read .ensures .1)
 

@@ -16,7 +16,8 @@ cast-n c = search needs
 returns : tie.Need-returns
 returns c =
     let after-read-number = c .before .before in
-    let args = after-read-number .before .before .before .args in
+    let at-start = after-read-number .before .before .before in
+    let args = at-start .args in
     no-room (args .text .now) (args .at) (args .room .now) (after-read-number .read-number .ensures) (c .if1 .taken)
 
 slice-relend-prefix-end-named : tie.Need-slice-relend-prefix-end-named
@@ -36,7 +37,8 @@ returns-2 c =
     let after-end-named = c .before .before in
     let at-if1 = after-end-named .before .before in
     let after-read-number = at-if1 .before .before in
-    let args = after-read-number .before .before .before .args in
+    let at-start = after-read-number .before .before .before in
+    let args = at-start .args in
     named (args .text .now) (args .at) (args .room .now) (after-read-number .read-number .ensures) (at-if1 .if1 .left)
     (after-end-named .end-named .ensures)
 
