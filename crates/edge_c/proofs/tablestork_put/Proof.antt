@@ -3,7 +3,6 @@ use mathlib.Core.Path.{sym}
 use Prim.Native.Nat.{ℕ}
 use lib.ListN.{length-replicate}
 use Rattle.common.specs.Sizes.{table-limit}
-use borrow.Author.Needs.{needs}
 use Rattle.edge_c.proofs.Forwarding.{table-array}
 use Rattle.edge_c.proofs.tablestork_put.Statement.{statement}
 use Rattle.edge_c.proofs.tablestork_put.Tie as tie
@@ -15,10 +14,14 @@ put-in-requires : tie.Need-put-in-requires
 put-in-requires c κs = table-array
 
 same-length : tie.Need-same-length
-same-length c = search needs
+same-length c =
+    let after-put-in = c .before .before .before .before .before in
+    after-put-in .put-in .kept .1 .0
 
 same-length-2 : tie.Need-same-length-2
-same-length-2 c = search needs
+same-length-2 c =
+    let after-put-in = c .before .before .before .before .before in
+    after-put-in .put-in .kept .1 .1 .0
 
 returns : tie.Need-returns
 returns c =

@@ -4,7 +4,6 @@ use Prim.Native.Nat.{ℕ}
 use lib.ListN.{length-replicate}
 use Rattle.common.specs.Sizes.{table-limit}
 use Rattle.edge_c.specs.Forwarded.{longest-store, longest-findings, longest-work, load-array}
-use borrow.Author.Needs.{needs}
 use Rattle.edge_c.proofs.Forwarding.{arrays}
 use Rattle.edge_c.proofs.tablestork_run.Statement.{statement}
 use Rattle.edge_c.proofs.tablestork_run.Tie as tie
@@ -28,19 +27,34 @@ run-in-requires : tie.Need-run-in-requires
 run-in-requires c κs = arrays
 
 same-length : tie.Need-same-length
-same-length c = search needs
+same-length c =
+    let after-run-in = c .before .before .before .before .before .before .before .before .before .before .before .before .before
+    .before .before .before in
+    after-run-in .run-in .kept .1 .1 .1 .1 .1 .0
 
 same-length-2 : tie.Need-same-length-2
-same-length-2 c = search needs
+same-length-2 c =
+    let after-run-in = c .before .before .before .before .before .before .before .before .before .before .before .before .before
+    .before .before .before in
+    after-run-in .run-in .kept .1 .1 .1 .1 .1 .1 .0
 
 same-length-3 : tie.Need-same-length-3
-same-length-3 c = search needs
+same-length-3 c =
+    let after-run-in = c .before .before .before .before .before .before .before .before .before .before .before .before .before
+    .before .before .before in
+    after-run-in .run-in .kept .1 .1 .1 .1 .1 .1 .1 .1 .1 .1 .0
 
 same-length-4 : tie.Need-same-length-4
-same-length-4 c = search needs
+same-length-4 c =
+    let after-run-in = c .before .before .before .before .before .before .before .before .before .before .before .before .before
+    .before .before .before in
+    after-run-in .run-in .kept .1 .1 .1 .1 .1 .1 .1 .1 .1 .1 .1 .0
 
 same-length-5 : tie.Need-same-length-5
-same-length-5 c = search needs
+same-length-5 c =
+    let after-run-in = c .before .before .before .before .before .before .before .before .before .before .before .before .before
+    .before .before .before in
+    after-run-in .run-in .kept .1 .1 .1 .1 .1 .1 .1 .1 .1 .1 .1 .1 .0
 
 returns : tie.Need-returns
 returns c =

@@ -3,7 +3,6 @@ use mathlib.Core.Path.{sym}
 use Prim.Native.Nat.{ℕ}
 use lib.ListN.{length-replicate}
 use Rattle.common.specs.Sizes.{table-limit}
-use borrow.Author.Needs.{needs}
 use Rattle.edge_c.proofs.Forwarding.{table-array}
 use Rattle.edge_c.proofs.tablestork_start.Statement.{statement}
 use Rattle.edge_c.proofs.tablestork_start.Tie as tie
@@ -15,10 +14,14 @@ start-in-requires : tie.Need-start-in-requires
 start-in-requires c κs = table-array
 
 same-length : tie.Need-same-length
-same-length c = search needs
+same-length c =
+    let after-start-in = c .before .before .before .before .before in
+    after-start-in .start-in .kept .1 .0
 
 same-length-2 : tie.Need-same-length-2
-same-length-2 c = search needs
+same-length-2 c =
+    let after-start-in = c .before .before .before .before .before in
+    after-start-in .start-in .kept .1 .1 .0
 
 returns : tie.Need-returns
 returns c =

@@ -1,5 +1,4 @@
 -- `edge_c::dictionary::lookup_in` meets its contract. Assumes nothing.
-use borrow.Author.Needs.{needs}
 use Rattle.edge_c.proofs.Forwarding.{table-enough, prefix, prefix-forwarded}
 use Rattle.edge_c.proofs.dictionary.lookup_in.Statement.{statement}
 use Rattle.edge_c.proofs.dictionary.lookup_in.Tie as tie
@@ -26,7 +25,7 @@ lookup-on-requires c κs =
     prefix-forwarded enough (at-start .args .table .now) (c .before .how-many .ensures)
 
 same-length : tie.Need-same-length
-same-length c = search needs
+same-length c = c .before .numbers .given .1
 
 returns : tie.Need-returns
 returns c = c .before .before .lookup-on .ensures

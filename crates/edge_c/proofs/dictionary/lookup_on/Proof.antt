@@ -4,7 +4,6 @@ use Rattle.dictionary_layout.specs.Layout.{Dict}
 use Rattle.dictionary_layout.specs.Dictionary.{valid}
 use Rattle.dictionary_layout.specs.Values.{contents}
 use Rattle.dictionary_layout.proofs.Choice.{true→T, false→not-T}
-use borrow.Author.Needs.{needs}
 use Rattle.edge_c.proofs.Forwarding.{Read-table, read-as}
 use Rattle.edge_c.proofs.Places.{place-broken, place-alike}
 use Rattle.edge_c.proofs.dictionary.lookup_on.Statement.{statement}
@@ -38,7 +37,9 @@ place-of-requires c κs =
     true→T (valid (passed after-read)) (sym (c .before .if1 .taken) ∙ after-is-valid .is-valid .ensures)
 
 same-length : tie.Need-same-length
-same-length c = search needs
+same-length c =
+    let after-read = c .before .before .before .before .before .before .before in
+    after-read .read-numbers .kept .1 .0
 
 returns : tie.Need-returns
 returns c =
@@ -46,7 +47,9 @@ returns c =
     place-alike (d after-read) (read after-read) (at-start after-read .args .id) (c .place-of .ensures)
 
 same-length-2 : tie.Need-same-length-2
-same-length-2 c = search needs
+same-length-2 c =
+    let after-read = c .before .before .before .before .before in
+    after-read .read-numbers .kept .1 .0
 
 returns-2 : tie.Need-returns-2
 returns-2 c =

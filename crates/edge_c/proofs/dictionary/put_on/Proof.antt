@@ -1,8 +1,8 @@
 -- `edge_c::dictionary::put_on` meets its contract. Assumes nothing.
+use mathlib.Core.Path.{_∙_}
 use Rattle.dictionary_layout.specs.Terms.{Term, term}
 use Rattle.dictionary_layout.specs.Layout.{Dict}
 use Rattle.dictionary_layout.specs.Values.{contents}
-use borrow.Author.Needs.{needs}
 use Rattle.edge_c.proofs.Forwarding.{Read-table, read-as}
 use Rattle.edge_c.proofs.Tables.{put-room, put-done}
 use Rattle.edge_c.proofs.dictionary.put_on.Statement.{statement}
@@ -39,13 +39,18 @@ write-back-requires c κs =
     put-room (d after-put) (read after-put) (x after-put) (next .result) (next .ensures) (next .kept .0)
 
 same-length : tie.Need-same-length
-same-length c = search needs
+same-length c =
+    let after-put = c .before .before .before .before .before .before .before .before .before in
+    let after-read = after-put .before .before .before .before .before in
+    after-put .put-by-value .kept .0 ∙ after-read .read-numbers .kept .1 .0
 
 same-length-2 : tie.Need-same-length-2
-same-length-2 c = search needs
+same-length-2 c = c .before .before .write-back .kept .1 .1 .0
 
 same-length-3 : tie.Need-same-length-3
-same-length-3 c = search needs
+same-length-3 c =
+    let after-put = c .before .before .before .before .before .before .before .before .before in
+    after-put .put-by-value .kept .1 .0
 
 returns : tie.Need-returns
 returns c =

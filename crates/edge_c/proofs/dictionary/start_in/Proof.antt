@@ -1,5 +1,4 @@
 -- `edge_c::dictionary::start_in` meets its contract. Assumes nothing.
-use borrow.Author.Needs.{needs}
 use Rattle.edge_c.proofs.Forwarding.{table-enough, prefix, prefix-forwarded}
 use Rattle.edge_c.proofs.dictionary.start_in.Statement.{statement}
 use Rattle.edge_c.proofs.dictionary.start_in.Tie as tie
@@ -27,13 +26,19 @@ start-on-requires c κs =
     prefix-forwarded enough (at-start .args .table .now) (after-how-many .how-many .ensures)
 
 same-length : tie.Need-same-length
-same-length c = search needs
+same-length c =
+    let after-numbers = c .before .before .before .before .before in
+    after-numbers .numbers .given .1
 
 same-length-2 : tie.Need-same-length-2
-same-length-2 c = search needs
+same-length-2 c =
+    let after-start-on = c .before .before .before .before .before .before in
+    after-start-on .start-on .kept .1 .0
 
 same-length-3 : tie.Need-same-length-3
-same-length-3 c = search needs
+same-length-3 c =
+    let after-start-on = c .before .before .before .before .before .before in
+    after-start-on .start-on .kept .1 .1 .0
 
 returns : tie.Need-returns
 returns c =

@@ -1,5 +1,4 @@
 -- `edge_c::dictionary::start_on` meets its contract. Assumes nothing.
-use borrow.Author.Needs.{needs}
 use Rattle.edge_c.proofs.Forwarding.{by-length}
 use Rattle.edge_c.proofs.Tables.{start-room, started}
 use Rattle.edge_c.proofs.dictionary.start_on.Statement.{statement}
@@ -17,13 +16,17 @@ write-back-requires c κs =
     start-room (args .table .now) (args .numbers .now) (args .arena .now) (by-length (at-start .pre)) (s .result) (s .ensures) (s .kept .0)
 
 same-length : tie.Need-same-length
-same-length c = search needs
+same-length c =
+    let after-start = c .before .before .before .before .before .before .before .before .before in
+    after-start .start .kept .0
 
 same-length-2 : tie.Need-same-length-2
-same-length-2 c = search needs
+same-length-2 c = c .before .before .write-back .kept .1 .1 .0
 
 same-length-3 : tie.Need-same-length-3
-same-length-3 c = search needs
+same-length-3 c =
+    let after-start = c .before .before .before .before .before .before .before .before .before in
+    after-start .start .kept .1 .0
 
 returns : tie.Need-returns
 returns c =

@@ -2,7 +2,6 @@
 use Prim.Native.Nat.{_/_}
 use lib.ListN.{length}
 use Rattle.driver_load.specs.Lent.{lent}
-use borrow.Author.Needs.{needs}
 use Rattle.edge_c.proofs.Forwarding.{table-enough, load-enough, store-enough, findings-enough, work-enough, few-more, Prefix}
 use Rattle.edge_c.proofs.Forwarding.{prefix, all-forwarded}
 use Rattle.edge_c.proofs.run.run_in.Statement.{statement}
@@ -123,34 +122,62 @@ run-on-requires c κs =
     (fourth s .how-many4 .ensures) (s .how-many5 .ensures)
 
 same-length : tie.Need-same-length
-same-length c = search needs
+same-length c =
+    let after-t = c .before .before .before .before .before .before .before .before .before .before .before .before .before
+    .before .before .before .before .before .before in
+    after-t .t .given .1
 
 same-length-2 : tie.Need-same-length-2
-same-length-2 c = search needs
+same-length-2 c =
+    let after-l = c .before .before .before .before .before .before .before .before .before .before .before .before .before
+    .before .before .before .before in
+    after-l .l .given .1
 
 same-length-3 : tie.Need-same-length-3
-same-length-3 c = search needs
+same-length-3 c =
+    let after-s = c .before .before .before .before .before .before .before .before .before .before .before .before .before
+    .before .before in
+    after-s .s .given .1
 
 same-length-4 : tie.Need-same-length-4
-same-length-4 c = search needs
+same-length-4 c =
+    let after-f = c .before .before .before .before .before .before .before .before .before .before .before .before .before in
+    after-f .f .given .1
 
 same-length-5 : tie.Need-same-length-5
-same-length-5 c = search needs
+same-length-5 c =
+    let after-w = c .before .before .before .before .before .before .before .before .before .before .before in
+    after-w .w .given .1
 
 same-length-6 : tie.Need-same-length-6
-same-length-6 c = search needs
+same-length-6 c =
+    let after-run-on = c .before .before .before .before .before .before .before .before .before .before .before .before .before
+    .before .before .before .before .before .before .before in
+    after-run-on .run-on .kept .1 .1 .1 .1 .1 .0
 
 same-length-7 : tie.Need-same-length-7
-same-length-7 c = search needs
+same-length-7 c =
+    let after-run-on = c .before .before .before .before .before .before .before .before .before .before .before .before .before
+    .before .before .before .before .before .before .before in
+    after-run-on .run-on .kept .1 .1 .1 .1 .1 .1 .0
 
 same-length-8 : tie.Need-same-length-8
-same-length-8 c = search needs
+same-length-8 c =
+    let after-run-on = c .before .before .before .before .before .before .before .before .before .before .before .before .before
+    .before .before .before .before .before .before .before in
+    after-run-on .run-on .kept .1 .1 .1 .1 .1 .1 .1 .1 .1 .0
 
 same-length-9 : tie.Need-same-length-9
-same-length-9 c = search needs
+same-length-9 c =
+    let after-run-on = c .before .before .before .before .before .before .before .before .before .before .before .before .before
+    .before .before .before .before .before .before .before in
+    after-run-on .run-on .kept .1 .1 .1 .1 .1 .1 .1 .1 .1 .1 .0
 
 same-length-10 : tie.Need-same-length-10
-same-length-10 c = search needs
+same-length-10 c =
+    let after-run-on = c .before .before .before .before .before .before .before .before .before .before .before .before .before
+    .before .before .before .before .before .before .before in
+    after-run-on .run-on .kept .1 .1 .1 .1 .1 .1 .1 .1 .1 .1 .1 .0
 
 returns : tie.Need-returns
 returns c =

@@ -5,7 +5,6 @@ use Prim.Native.Nat.{ℕ}
 use Rattle.dictionary_layout.specs.Layout.{Dict}
 use Rattle.dictionary_layout.specs.Values.{contents}
 use Rattle.driver_load.specs.Lent.{Lent, lent}
-use borrow.Author.Needs.{needs}
 use Rattle.edge_c.proofs.Forwarding.{Passed, all-read}
 use Rattle.edge_c.proofs.Runs.{rooms, run-done}
 use Rattle.edge_c.proofs.run.run_on.Statement.{statement}
@@ -70,28 +69,48 @@ same-length-2 c =
     load-read after-run .read-numbers2 .kept .1 .0
 
 same-length-3 : tie.Need-same-length-3
-same-length-3 c = search needs
+same-length-3 c =
+    let after-run = c .before .before .before .before .before .before .before .before .before .before .before .before
+    .before .before .before .before .before .before .before .before .before .before .before .before .before .before in
+    after-run .run .kept .1 .1 .1 .1 .0
 
 same-length-4 : tie.Need-same-length-4
-same-length-4 c = search needs
+same-length-4 c =
+    let after-run = c .before .before .before .before .before .before .before .before .before .before .before .before
+    .before .before .before .before .before .before .before .before .before .before .before .before .before .before in
+    after-run .run .kept .1 .1 .1 .1 .1 .0
 
 same-length-5 : tie.Need-same-length-5
-same-length-5 c = search needs
+same-length-5 c =
+    let after-run = c .before .before .before .before .before .before .before .before .before .before .before .before
+    .before .before .before .before .before .before .before .before .before .before .before .before .before .before in
+    after-run .run .kept .1 .1 .1 .1 .1 .1 .0
 
 same-length-6 : tie.Need-same-length-6
-same-length-6 c = search needs
+same-length-6 c =
+    let after-write-all = c .before .before .before .before .before .before .before .before in
+    after-write-all .write-all .kept .1 .1 .1 .1 .0
 
 same-length-7 : tie.Need-same-length-7
-same-length-7 c = search needs
+same-length-7 c =
+    let after-run = c .before .before .before .before .before .before .before .before .before .before .before .before
+    .before .before .before .before .before .before .before .before .before .before .before .before .before .before in
+    after-run .run .kept .1 .0
 
 same-length-8 : tie.Need-same-length-8
-same-length-8 c = search needs
+same-length-8 c =
+    let after-write-all = c .before .before .before .before .before .before .before .before in
+    after-write-all .write-all .kept .1 .1 .1 .1 .1 .0
 
 same-length-9 : tie.Need-same-length-9
-same-length-9 c = search needs
+same-length-9 c =
+    let after-write-all = c .before .before .before .before .before .before .before .before in
+    after-write-all .write-all .kept .1 .1 .1 .1 .1 .1 .0
 
 same-length-10 : tie.Need-same-length-10
-same-length-10 c = search needs
+same-length-10 c =
+    let after-write-all = c .before .before .before .before .before .before .before .before in
+    after-write-all .write-all .kept .1 .1 .1 .1 .1 .1 .1 .0
 
 returns : tie.Need-returns
 returns c =

@@ -1,5 +1,4 @@
 -- `edge_c::run::write_all` meets its contract. Assumes nothing.
-use borrow.Author.Needs.{needs}
 use Rattle.edge_c.proofs.run.write_all.Statement.{statement}
 use Rattle.edge_c.proofs.run.write_all.Tie as tie
 
@@ -23,16 +22,23 @@ clear-back-requires : tie.Need-clear-back-requires
 clear-back-requires c κs = tt
 
 same-length : tie.Need-same-length
-same-length c = search needs
+same-length c =
+    let after-write-back = c .before .before .before .before .before .before .before .before .before .before .before .before
+    .before .before in
+    after-write-back .write-back .kept .1 .1 .0
 
 same-length-2 : tie.Need-same-length-2
-same-length-2 c = search needs
+same-length-2 c =
+    let after-write-back2 = c .before .before .before .before .before .before .before .before .before .before in
+    after-write-back2 .write-back2 .kept .1 .1 .0
 
 same-length-3 : tie.Need-same-length-3
-same-length-3 c = search needs
+same-length-3 c =
+    let after-write-back3 = c .before .before .before .before .before .before in
+    after-write-back3 .write-back3 .kept .1 .1 .0
 
 same-length-4 : tie.Need-same-length-4
-same-length-4 c = search needs
+same-length-4 c = c .before .before .clear-back .kept .1 .0
 
 returns : tie.Need-returns
 returns c =
