@@ -5,3 +5,4 @@ pub mod Order
 pub mod Rows
 pub mod Last
 pub mod Widths
+pub mod Filling

@@ -2,7 +2,7 @@
 -- REFERENCE 1.3 and 3.4. Assumes nothing.
 use mathlib.Core.List.{List, [], _∷_, _++_}
 use Prim.Native.Nat.{ℕ, _-_}
-use lib.ListN.{length, replicate}
+use lib.ListN.{length, take, replicate}
 use Rattle.common.specs.Triples.{Triple, triple, Finding, finding}
 
 abbrev pub flat : List Triple → List ℕ
@@ -35,3 +35,7 @@ filled buffer row = row ++ replicate (length buffer - length row) 0
 
 abbrev pub zeros : List ℕ → List ℕ
 zeros buffer = replicate (length buffer) 0
+
+-- l with zeros from place k on
+unfoldable pub cleared : ℕ → List ℕ → List ℕ
+cleared k l = take k l ++ replicate (length l - k) 0

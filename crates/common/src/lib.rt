@@ -1,7 +1,8 @@
-// Ids, triples and the vocabulary, as common.rs has them. The definitions of the whole project are in specs/ beside it, and the
-// theorems about them in proofs/.
+// Ids, triples and the vocabulary, as common.rs has them, widths and limits, and the clearing of a buffer. The definitions that every
+// crate cites are in specs/ beside it, and the theorems about them in proofs/.
 ghost use mathlib.Core.Path.{_≡_};
 ghost use Rattle.common.specs.Vocabulary.{vocabulary};
+ghost use Rattle.common.specs.Rows.{cleared};
 
 // How many numbers a triple of a load has, a row of a store, a finding.
 pub const LOAD_WIDTH: usize = 3;
@@ -146,4 +147,15 @@ pub fn vocabulary() -> [u32; 30]
         Vocab::OWL_PROPERTY_DISJOINT_WITH.0,
         Vocab::OWL_CLASS.0,
     ]
+}
+
+// All numbers from place k on become 0.
+pub fn clear_from(buf: &mut [u32], k: usize)
+    ensures { λ _. ⌜ now (buf .exit) ≡ cleared k (now (buf .entry)) ⌝ }
+{
+    let mut i = k;
+    while i < buf.len() {
+        buf[i] = 0;
+        i += 1;
+    }
 }

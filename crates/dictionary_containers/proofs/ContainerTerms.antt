@@ -145,7 +145,7 @@ module _ (kind : ℕ) (bytes : List ℕ) where
 
   -- at least as long as the prefix
   pub container-long : true ≡ starts-with prefix bytes → 44 ≤ length bytes
-  container-long e = go (native.Mathlib.Decide.decLt (length bytes) 44)
+  container-long e = go (decLt (length bytes) 44)
     where
       go : Dec (length bytes < 44) → 44 ≤ length bytes
       go (yes l) = absurd (false→not-T (starts-with prefix bytes) (prefix-short prefix bytes l) (true→T (starts-with prefix bytes) e))

@@ -3,11 +3,11 @@ mod inner; // inner.rt: put, and where a term lies, where the contents are known
 mod values; // values.rt: what the calls answer
 
 use common::Id;
+use common::clear_from;
 use dictionary_entries::initial::enter_all;
 use dictionary_entries::initial::start_refusal;
 pub use dictionary_layout::Counters;
 use dictionary_layout::bytes::clear_bytes;
-use dictionary_layout::bytes::clear_numbers;
 pub use dictionary_valid::is_valid;
 pub use inner::locate;
 use inner::part;
@@ -36,7 +36,7 @@ pub fn start(table: &mut [u32], arena: &mut [u8]) -> Started
             counters: Counters { terms: 0, used: 0 },
         };
     }
-    clear_numbers(table);
+    clear_from(table, 0);
     clear_bytes(arena);
     let counters = enter_all(table, arena);
     Started {

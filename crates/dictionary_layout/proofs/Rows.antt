@@ -1,4 +1,4 @@
--- Rows of numbers: what comparing, clearing and copying them place by place comes to. Assumes nothing.
+-- Rows of numbers: what comparing and copying them place by place comes to. Assumes nothing.
 use mathlib.Core.Path.{_≡_, refl, sym, _∙_, ap, subst}
 use mathlib.Core.Logic.{_≢_}
 use mathlib.Core.Bool.{true, false}
@@ -6,10 +6,9 @@ use mathlib.Core.List.{List}
 use Prim.Native.Nat.{ℕ, zero, suc, _+_, _-_, _≤_, _<_}
 use native.Mathlib.Omega.{arith}
 use native.Mathlib.Numerals.{add-one}
-use native.Mathlib.Decide.{ℕ-discrete}
 use lib.Dec.{T}
 use lib.ListN.{length, getD, take, drop, set, replicate, length-replicate, length-drop, length-set}
-use lib.Seq.{paste, paste-zero, paste-suc, take-all, getD-set-same, getD-set-other, ext-getD}
+use lib.Seq.{paste, paste-zero, paste-suc, take-all, ext-getD}
 use Rattle.dictionary_layout.specs.Dictionary.{same-row}
 use Rattle.dictionary_layout.proofs.Choice.{is-true, is-false}
 use Rattle.dictionary_layout.proofs.Equality.{same-row-refl, same-row→}
@@ -50,9 +49,6 @@ module _ (a : List ℕ) where
   pub not-zeros : (i : ℕ) → getD a i 0 ≢ 0 → false ≡ same-row a (replicate (length a) 0)
   not-zeros i n = place-differs a (replicate (length a) 0) i (λ e. n (e ∙ zeros-at (length a) i))
 
-  pub all-zeros : Zeros (length a) a → a ≡ replicate (length a) 0
-  all-zeros f = ext-getD 0 a (replicate (length a) 0) (sym (length-replicate (length a) 0)) (λ k h. f k h ∙ sym (zeros-at (length a) k))
-
   -- a row that is zero at every place is a row of zeros
   pub zeros→same-row : Zeros (length a) a → true ≡ same-row a (replicate (length a) 0)
   zeros→same-row f = all-agree a (replicate (length a) 0) (sym (length-replicate (length a) 0)) (λ k h. f k h ∙ sym (zeros-at (length a) k))
@@ -60,25 +56,6 @@ module _ (a : List ℕ) where
 -- the part of a row from a place to its end
 pub rest-part : (n : ℕ) (a : List ℕ) → take (length a - n) (drop n a) ≡ drop n a
 rest-part n a = take-all (length a - n) (drop n a) (omega (arith, length-drop n a))
-
--- CLEARED up to i: nothing but zeros, and the length is kept
-pub record Cleared (a₀ : List ℕ) (a : List ℕ) (i : ℕ) : Type 0 where
-  pub within : i ≤ length a₀
-  pub long : length a ≡ length a₀
-  pub zeros : Zeros i a
-
-module _ {a₀ a : List ℕ} (i : ℕ) where
-  -- one place more
-  pub clear-more : i < length a → Cleared a₀ a i → Cleared a₀ (set a i 0) (i + 1)
-  clear-more h c = record { within = omega (arith, c .long); long = simp length-set (c .long); zeros = λ k l. go k l (ℕ-discrete k i) }
-    where
-      go : (k : ℕ) → k < i + 1 → Dec (k ≡ i) → getD (set a i 0) k 0 ≡ 0
-      go k l (yes e) = ap (λ (j : ℕ). getD (set a i 0) j 0) e ∙ getD-set-same a i 0 0 h
-      go k l (no n) = getD-set-other a i k 0 0 n ∙ c .zeros k (omega arith)
-
-  -- the end
-  pub clear-end : length a ≤ i → Cleared a₀ a i → a ≡ replicate (length a₀) 0
-  clear-end h c = all-zeros a (λ k l. c .zeros k (omega arith)) ∙ ap (λ (n : ℕ). replicate n 0) (c .long)
 
 -- COPIED: the first i of s, from the place at
 pub record Copied (d₀ : List ℕ) (at : ℕ) (s d : List ℕ) (i : ℕ) : Type 0 where

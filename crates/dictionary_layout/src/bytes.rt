@@ -78,17 +78,6 @@ pub fn clear_bytes(a: &mut [u8])
     }
 }
 
-// Makes all numbers zero.
-pub fn clear_numbers(a: &mut [u32])
-    ensures { λ _. ⌜ now (a .exit) ≡ replicate (length (now (a .entry))) 0 ⌝ }
-{
-    let mut i = 0;
-    while i < a.len() {
-        a[i] = 0;
-        i += 1;
-    }
-}
-
 // Copies all of src into dst from the place at.
 pub fn copy_at(dst: &mut [u8], at: usize, src: &[u8])
     requires { ⌜ at + length (now src) ≤ length (now dst) ⌝ }

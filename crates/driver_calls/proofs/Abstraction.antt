@@ -3,7 +3,7 @@ use mathlib.Core.Path.{_≡_, refl, _∙_, ap}
 use mathlib.Core.List.{List, [], _∷_}
 use Prim.Native.Nat.{ℕ, zero, suc}
 use lib.ListN.{length}
-use Rattle.driver_load.specs.Lent.{Lent}
+use Rattle.driver_refusals.specs.Lent.{Lent}
 use Rattle.driver_run.specs.Run.{unchanged, run-all-put, run-passed, abstract-run, Run-result, run-laid, run-gives}
 use Rattle.driver_refusals.specs.RunRefusals.{first-refusal, run-refusals}
 use Rattle.dictionary_layout.specs.Terms.{Term, start-terms, run-terms}

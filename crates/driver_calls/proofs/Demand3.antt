@@ -23,7 +23,8 @@ use Rattle.dictionary_layout.specs.Terms.{Term, start-terms}
 use Rattle.dictionary_layout.specs.Layout.{decode}
 use Rattle.dictionary_layout.specs.Calls.{start-gives}
 use Rattle.dictionary_layout.proofs.Decoding.{decode-layout}
-use Rattle.driver_load.specs.Lent.{Lent, Run-answer, store-room, findings-room, outcome-answer, containers}
+use Rattle.driver_refusals.specs.Lent.{Lent}
+use Rattle.driver_load.specs.Closed.{Run-answer, store-room, findings-room, outcome-answer, containers}
 use Rattle.driver_calls.specs.Calls.{Call, ran, List-left, events-of, terms-after}
 use Rattle.driver_calls.specs.Demand3.{answer, found, Agree, Exact, list-gives, Demand-3}
 use Rattle.driver_calls.proofs.Abstraction.{start-abstract}

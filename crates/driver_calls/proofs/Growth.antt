@@ -7,7 +7,8 @@ use Prim.Native.Nat.{ℕ, zero, suc, _≤_, _<_}
 use native.Mathlib.Omega.{arith}
 use lib.Dec.{T, ltb, eqb, ltb→lt}
 use lib.ListN.{length, getD, List·getD-append}
-use Rattle.driver_load.specs.Lent.{Lent, Run-answer, store-room, findings-room, outcome-answer, containers, closed}
+use Rattle.driver_refusals.specs.Lent.{Lent}
+use Rattle.driver_load.specs.Closed.{Run-answer, store-room, findings-room, outcome-answer, containers, closed}
 use Rattle.driver_run.specs.Run.{Abstract-run-result, run-all-put, run-passed, abstract-run}
 use Rattle.driver_refusals.specs.RunRefusals.{first-refusal, run-refusals}
 use Rattle.dictionary_layout.specs.Terms.{Term, no-term, property-term, membership-term, member-term, run-terms}

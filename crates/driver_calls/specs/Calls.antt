@@ -7,7 +7,8 @@ use Rattle.dictionary_layout.specs.Terms.{Term}
 use Rattle.dictionary_layout.specs.Layout.{Dict}
 use Rattle.dictionary_layout.specs.Dictionary.{Lookup-answer, abstract-put, abstract-lookup}
 use Rattle.dictionary_layout.specs.Calls.{put-gives, lookup-gives}
-use Rattle.driver_load.specs.Lent.{Lent, Run-answer}
+use Rattle.driver_refusals.specs.Lent.{Lent}
+use Rattle.driver_load.specs.Closed.{Run-answer}
 use Rattle.driver_run.specs.Run.{abstract-run, run-gives}
 
 -- a call, with what it is lent besides the dictionary

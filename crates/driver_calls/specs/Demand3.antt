@@ -16,7 +16,8 @@ use Rattle.meaning.specs.Batch.{Same, Conditions}
 use Rattle.dictionary_layout.specs.Terms.{start-terms}
 use Rattle.dictionary_layout.specs.Layout.{layout, decode}
 use Rattle.dictionary_layout.specs.Calls.{start-gives}
-use Rattle.driver_load.specs.Lent.{Lent, Run-answer, containers}
+use Rattle.driver_refusals.specs.Lent.{Lent}
+use Rattle.driver_load.specs.Closed.{Run-answer, containers}
 use Rattle.driver_calls.specs.Calls.{Call, Event, ran, List-left, calls-give, events-of, terms-after, number-of}
 
 -- the triples that a run's store holds, by its triple count, and the records of its findings, by its five counts

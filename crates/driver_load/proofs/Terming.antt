@@ -28,7 +28,7 @@ use Rattle.engine_table.specs.Clauses.{Clause, TableOfRules}
 use Rattle.store_rows.specs.Layout.{members-at, lists-at}
 use Rattle.engine_disjoint_sets.specs.Lists.{Ready, Made}
 use Rattle.engine_closing.specs.Closing.{Closable}
-use Rattle.driver_load.specs.Lent.{containers}
+use Rattle.driver_load.specs.Closed.{containers}
 use Rattle.driver_load.specs.Loads.{Termed, Loaded, Unused}
 use Rattle.driver_load.proofs.Loading.{rows-start}
 

@@ -1,3 +1,3 @@
-pub mod Lent
+pub mod Closed
 pub mod Values
 pub mod Loads

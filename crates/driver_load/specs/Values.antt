@@ -1,7 +1,8 @@
 -- The answer that a value of src/ stands for, with the buffers as they are left. Assumes nothing.
 use Prim.Native.Nat.{ℕ}
 use Rattle.driver_load.specs.declared.values.RunAnswer.{RunAnswer}
-use Rattle.driver_load.specs.Lent.{Lent, Run-answer, five-zeros}
+use Rattle.driver_refusals.specs.Lent.{Lent}
+use Rattle.driver_load.specs.Closed.{Run-answer, five-zeros}
 
 -- that of a refused run
 abbrev pub refused-answer : ℕ → RunAnswer

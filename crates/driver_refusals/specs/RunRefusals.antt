@@ -8,7 +8,7 @@ use lib.ListN.{length}
 use Rattle.common.specs.Triples.{if, all}
 use Rattle.common.specs.Sizes.{load-width, load-limit, store-width, store-limit, finding-width, finding-limit, work-width}
 use Rattle.common.specs.Sizes.{run-terms-count}
-use Rattle.driver_load.specs.Lent.{Lent}
+use Rattle.driver_refusals.specs.Lent.{Lent}
 
 -- REFUSALS in order: the number of the first whose condition is met, and 0 where none is
 pub record Refusal : Type 0 where

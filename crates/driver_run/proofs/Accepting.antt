@@ -6,7 +6,8 @@ use Prim.Native.Nat.{ℕ, zero, suc}
 use native.Mathlib.Omega.{arith}
 use lib.Dec.{T, ltb, eqb}
 use lib.ListN.{length}
-use Rattle.driver_load.specs.Lent.{Lent, outcome-answer, closed}
+use Rattle.driver_refusals.specs.Lent.{Lent}
+use Rattle.driver_load.specs.Closed.{outcome-answer, closed}
 use Rattle.driver_run.specs.Run.{Abstract-run-result, run-all-put, run-passed, abstract-run}
 use Rattle.driver_refusals.specs.RunRefusals.{first-refusal, run-refusals}
 use Rattle.dictionary_layout.specs.Terms.{Term, run-terms}

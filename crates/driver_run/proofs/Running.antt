@@ -23,7 +23,8 @@ use Rattle.dictionary_layout.proofs.Choice.{if-yes, if-no}
 use Rattle.dictionary_layout.proofs.Decoding.{decode-layout}
 use Rattle.dictionary_layout.proofs.Holding.{Holds, valid→, valid-layout}
 use Rattle.dictionary_entries.proofs.Reading.{held, count}
-use Rattle.driver_load.specs.Lent.{Lent, Run-answer, closed-answer}
+use Rattle.driver_refusals.specs.Lent.{Lent}
+use Rattle.driver_load.specs.Closed.{Run-answer, closed-answer}
 use Rattle.driver_run.specs.Run.{unchanged, Abstract-run-result, run-all-put, run-passed, abstract-run, Run-result, run-laid}
 use Rattle.driver_run.specs.Run.{run-gives}
 use Rattle.driver_refusals.specs.RunRefusals.{first-refusal, run-refusals}

@@ -7,7 +7,8 @@ use Rattle.dictionary_layout.specs.Terms.{Term, run-terms}
 use Rattle.dictionary_layout.specs.Layout.{Dict, layout}
 use Rattle.dictionary_layout.specs.Dictionary.{All-put, full, all-put, put-all}
 use Rattle.dictionary_layout.specs.Calls.{on-valid}
-use Rattle.driver_load.specs.Lent.{Lent, Run-answer, five-zeros, closed-answer}
+use Rattle.driver_refusals.specs.Lent.{Lent}
+use Rattle.driver_load.specs.Closed.{Run-answer, five-zeros, closed-answer}
 use Rattle.driver_refusals.specs.RunRefusals.{first-refusal, run-refusals}
 
 -- refused, with no buffer changed

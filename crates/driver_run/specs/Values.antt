@@ -2,7 +2,7 @@
 use mathlib.Core.List.{List, []}
 use Prim.Native.Nat.{ℕ}
 use Rattle.dictionary_layout.specs.Values.{contents}
-use Rattle.driver_load.specs.Lent.{Lent, lent}
+use Rattle.driver_refusals.specs.Lent.{Lent, lent}
 use Rattle.driver_load.specs.Values.{answered}
 use Rattle.driver_run.specs.declared.values.RunNext.{RunNext}
 use Rattle.driver_run.specs.Run.{Run-result}

@@ -20,7 +20,8 @@ use Rattle.dictionary_layout.proofs.Holding.{Added, put-cases, Holds, sized→}
 use Rattle.dictionary_layout.proofs.Reachable.{on-layout, start-holds, start-leaves}
 use Rattle.dictionary_entries.specs.Entries.{start-of}
 use Rattle.dictionary_entries.proofs.Reading.{entry-is}
-use Rattle.driver_load.specs.Lent.{Lent, outcome-answer, closed}
+use Rattle.driver_refusals.specs.Lent.{Lent}
+use Rattle.driver_load.specs.Closed.{outcome-answer, closed}
 use Rattle.driver_run.specs.Run.{unchanged, run-all-put, run-passed, Abstract-run-result, abstract-run, Run-result, run-laid, run-gives}
 use Rattle.driver_refusals.specs.RunRefusals.{first-refusal, run-refusals}
 use Rattle.driver_calls.specs.Calls.{Call, put, lookup, run-on, abstract-call, terms-after}

@@ -9,7 +9,6 @@ use lib.ListN.{length, take, replicate}
 use lib.Seq.{take-at}
 use Rattle.common.specs.Sizes.{store-width, finding-width}
 use Rattle.common.specs.Triples.{Triple, triple, Finding, In, here, there}
-use Rattle.meaning.specs.Rules.{Graph, Found, cax-dw, prp-irp, prp-asyp, prp-pdw, cls-nothing2}
 use Rattle.meaning.specs.Containers.{Containers}
 use Rattle.meaning.specs.Table.{graph-of}
 use Rattle.meaning.specs.Closure.{Sub, closure}
@@ -17,14 +16,15 @@ use Rattle.common.specs.Rows.{flat, flat-findings, triples, filled}
 use Rattle.meaning.proofs.Checks.{findings→}
 use Rattle.meaning.proofs.LoadClosure.{Closure, computed→}
 use Rattle.meaning.proofs.Batch.{in-without-zero→}
-use Rattle.meaning.proofs.Ids.{Each, closure-below}
+use Rattle.meaning.proofs.Ids.{Each, closure-below, found-each}
 use Rattle.common.proofs.Rows.{triples-flat, length-flat}
 use Rattle.meaning.proofs.Counts.{found-check}
 use Rattle.meaning.proofs.Run.{Accepted, accepted→}
 use Rattle.dictionary_layout.specs.Terms.{Term, run-terms, property-term, membership-term, member-term}
 use Rattle.dictionary_layout.specs.Dictionary.{place-of, id-of}
 use Rattle.dictionary_layout.proofs.Holding.{Holds}
-use Rattle.driver_load.specs.Lent.{Lent, Run-answer, containers}
+use Rattle.driver_refusals.specs.Lent.{Lent}
+use Rattle.driver_load.specs.Closed.{Run-answer, containers}
 use Rattle.driver_run.specs.Run.{Abstract-run-result, abstract-run}
 use Rattle.driver_run.proofs.Accepting.{AcceptedRun, run-accepted}
 use Rattle.driver_run.proofs.PuttingAll.{grown-length, put-all-grows, put-all-holds, put-all-below}
@@ -55,14 +55,6 @@ fit-flat-findings (x ∷ xs) f = let (n, a, b, c, d) = f x (here refl) in (n, (a
 
 fit-filled : (buffer row : List ℕ) → Fit-bytes row → Fit-bytes (filled buffer row)
 fit-filled buffer row f = fit-append row (replicate (length buffer - length row) 0) f (fit-zeros (length buffer - length row))
-
--- the ids of a finding are 0 or those of the set
-found-each : (P : ℕ → Type 0) (S : Graph) → P 0 → Sub S (Each P) → {n a b c d : ℕ} → Found S n a b c d → P a × P b × P c × P d
-found-each P S z f (cax-dw h j k n) = (f _ _ _ h .0, f _ _ _ h .2, f _ _ _ j .2, z)
-found-each P S z f (prp-irp h j n) = (f _ _ _ h .0, f _ _ _ j .0, z, z)
-found-each P S z f (prp-asyp h j k l m n) = (f _ _ _ h .0, f _ _ _ j .0, f _ _ _ j .2, z)
-found-each P S z f (prp-pdw h j k l m n o) = (f _ _ _ j .0, f _ _ _ j .2, f _ _ _ h .0, f _ _ _ h .2)
-found-each P S z f (cls-nothing2 h n) = (f _ _ _ h .0, z, z, z)
 
 -- AN ACCEPTED RUN over numbers
 module _ {tl al : ℕ} {ts : List Term} (h : Holds tl al ts) {b : Lent} {l : Abstract-run-result} (a : AcceptedRun tl al ts b l) where

@@ -13,7 +13,8 @@ use Rattle.dictionary_layout.specs.Dictionary.{term-of}
 use Rattle.dictionary_layout.specs.Calls.{start-gives}
 use Rattle.dictionary_layout.proofs.Chains.{arena-part}
 use Rattle.dictionary_layout.proofs.Decoding.{decode-layout}
-use Rattle.driver_load.specs.Lent.{Lent, Run-answer, containers}
+use Rattle.driver_refusals.specs.Lent.{Lent}
+use Rattle.driver_load.specs.Closed.{Run-answer, containers}
 use Rattle.driver_calls.specs.Calls.{Call, lookup, run-on, run-gave, event, List-left, calls-give, terms-after}
 use Rattle.driver_calls.specs.Demand3.{answer, Agree, Exact, Demand-3}
 use Rattle.driver_calls.proofs.Demand3.{demand-3}

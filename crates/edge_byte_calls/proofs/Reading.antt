@@ -15,7 +15,8 @@ use Rattle.dictionary_layout.specs.Terms.{Term, no-term}
 use Rattle.dictionary_layout.specs.Layout.{size}
 use Rattle.dictionary_layout.specs.Dictionary.{Lookup-answer, lookup-answer, term-of, abstract-lookup}
 use Rattle.dictionary_layout.proofs.Holding.{Holds}
-use Rattle.driver_load.specs.Lent.{Lent, Run-answer}
+use Rattle.driver_refusals.specs.Lent.{Lent}
+use Rattle.driver_load.specs.Closed.{Run-answer}
 use Rattle.driver_run.specs.Run.{abstract-run}
 use Rattle.driver_run.proofs.PuttingAll.{Grown, grown-length, grown-trans}
 use Rattle.driver_calls.specs.Calls.{Call, put, lookup, run-on, run-gave, abstract-call, event, events-of, terms-after, number-of}

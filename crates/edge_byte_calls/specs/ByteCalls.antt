@@ -7,7 +7,7 @@ use lib.ListN.{take}
 use Rattle.dictionary_layout.specs.Terms.{Term, start-terms}
 use Rattle.dictionary_layout.specs.Layout.{Dict, dict, size, layout}
 use Rattle.dictionary_layout.specs.Dictionary.{abstract-put, abstract-lookup}
-use Rattle.driver_load.specs.Lent.{Run-answer}
+use Rattle.driver_load.specs.Closed.{Run-answer}
 use Rattle.driver_run.specs.Run.{abstract-run}
 use Rattle.driver_calls.specs.Calls.{Call, put, lookup, run-on, abstract-call, terms-after}
 use Rattle.edge_bytes.specs.Bytes.{bytes-of}

@@ -13,7 +13,8 @@ use Rattle.meaning.specs.Batch.{Same, Conditions}
 use Rattle.dictionary_layout.specs.Terms.{Term}
 use Rattle.dictionary_layout.specs.Layout.{decode}
 use Rattle.dictionary_layout.specs.Dictionary.{term-of}
-use Rattle.driver_load.specs.Lent.{Lent, Run-answer, containers}
+use Rattle.driver_refusals.specs.Lent.{Lent}
+use Rattle.driver_load.specs.Closed.{Run-answer, containers}
 use Rattle.driver_calls.specs.Calls.{Call, lookup, run-on}
 use Rattle.driver_calls.specs.Demand3.{answer, Agree, Exact}
 use Rattle.edge_bytes.specs.Bytes.{bytes-of, Fit-bytes, read-buffer}

@@ -12,7 +12,7 @@ use mir.Val.{Fits}
 use borrow.Author.Tests.{eq-eqb, ne-eqb, eqb-true, eqb-false, leb-true, leb-false}
 use Rattle.common.specs.Sizes.{table-limit}
 use Rattle.edge_bytes.specs.Bytes.{numbers-of, read-buffer, forwarded}
-use Rattle.driver_load.specs.Lent.{Lent, lent}
+use Rattle.driver_refusals.specs.Lent.{Lent, lent}
 use Rattle.edge_c.specs.Forwarded.{longest-load, longest-store, longest-findings, longest-work, longer-load, load-array}
 use Rattle.edge_c.specs.Forwarded.{table-forwarded, load-forwarded, store-forwarded, findings-forwarded, work-forwarded}
 use Rattle.edge_c.specs.Forwarded.{Forwarded-all, Enough}

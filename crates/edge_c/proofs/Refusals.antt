@@ -10,7 +10,7 @@ use lib.ListN.{length}
 use borrow.Author.Tests.{eq-eqb, ne-eqb, lt-ltb, le-ltb, eqb-true, eqb-false}
 use Rattle.common.specs.Triples.{if, all}
 use Rattle.common.specs.Sizes.{load-width, store-width, finding-width, entry-limit, run-terms-count, work-width}
-use Rattle.driver_load.specs.Lent.{Lent}
+use Rattle.driver_refusals.specs.Lent.{Lent}
 use Rattle.driver_refusals.specs.RunRefusals.{Refusal, refusal-if, first-refusal, run-refusals}
 use Rattle.driver_refusals.proofs.Refusing.{Unmet, unmet-all, not-not}
 use Rattle.edge_bytes.specs.Bytes.{read-buffer, changes}

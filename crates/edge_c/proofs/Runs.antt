@@ -15,7 +15,8 @@ use Rattle.dictionary_layout.specs.Layout.{Dict, dict, layout, decode}
 use Rattle.dictionary_layout.specs.Dictionary.{All-put, full, all-put, put-all, valid}
 use Rattle.dictionary_layout.proofs.Choice.{if-yes, false→not-T, decide-bool}
 use Rattle.dictionary_entries.proofs.Reading.{count, lengths}
-use Rattle.driver_load.specs.Lent.{Lent, Run-answer, five-zeros, outcome-answer, containers, closed}
+use Rattle.driver_refusals.specs.Lent.{Lent}
+use Rattle.driver_load.specs.Closed.{Run-answer, five-zeros, outcome-answer, containers, closed}
 use Rattle.driver_run.specs.Run.{unchanged, Abstract-run-result, run-passed, run-all-put, abstract-run, Run-result, run-laid, run-gives}
 use Rattle.driver_refusals.specs.RunRefusals.{first-refusal, run-refusals}
 use Rattle.driver_run.specs.Values.{run-left}

@@ -10,7 +10,8 @@ use Rattle.dictionary_layout.specs.Dictionary.{Lookup-answer}
 use Rattle.dictionary_entries.specs.Entries.{start-of}
 use Rattle.dictionary_layout.specs.Calls.{Start-result, start-result, start-gives, Put-result, put-result, put-gives, lookup-gives}
 use Rattle.dictionary_index.specs.Values.{begin-at}
-use Rattle.driver_load.specs.Lent.{Lent, lent, Run-answer}
+use Rattle.driver_refusals.specs.Lent.{Lent, lent}
+use Rattle.driver_load.specs.Closed.{Run-answer}
 use Rattle.driver_run.specs.Run.{Run-result, run-gives}
 use Rattle.edge_bytes.specs.Bytes.{read-buffer, left-bytes}
 

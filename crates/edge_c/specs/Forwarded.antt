@@ -6,7 +6,7 @@ use Prim.Native.Nat.{ℕ, _+_, _*_, _-_, _/_, _%_, _≤_}
 use lib.ListN.{length}
 use Rattle.common.specs.Sizes.{load-width, store-width, finding-width, load-limit, store-limit, finding-limit, entry-limit, table-limit}
 use Rattle.common.specs.Sizes.{run-terms-count, work-width}
-use Rattle.driver_load.specs.Lent.{Lent}
+use Rattle.driver_refusals.specs.Lent.{Lent}
 use Rattle.edge_bytes.specs.Bytes.{forwarded}
 
 -- the numbers of the longest load, store and findings

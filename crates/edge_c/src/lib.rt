@@ -17,7 +17,7 @@ ghost use mathlib.Core.Path.{_≡_};
 ghost use Rattle.dictionary_layout.specs.Terms.{term};
 ghost use Rattle.dictionary_layout.specs.Layout.{dict};
 ghost use Rattle.dictionary_layout.specs.Calls.{start-result, put-result};
-ghost use Rattle.driver_load.specs.Lent.{lent};
+ghost use Rattle.driver_refusals.specs.Lent.{lent};
 ghost use Rattle.edge_c.specs.Calls.{read-dict, start-bytes-give, put-bytes-give, place-answer, Places, run-bytes-give};
 ghost use Rattle.edge_c.specs.Calls.{run-result};
 

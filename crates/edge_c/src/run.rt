@@ -17,7 +17,7 @@ ghost use mathlib.Core.Path.{_≡_};
 ghost use lib.Dec.{T};
 ghost use Rattle.dictionary_layout.specs.Layout.{dict};
 ghost use Rattle.dictionary_layout.specs.Values.{contents};
-ghost use Rattle.driver_load.specs.Lent.{lent};
+ghost use Rattle.driver_refusals.specs.Lent.{lent};
 ghost use Rattle.driver_run.specs.Values.{run-left};
 ghost use Rattle.edge_bytes.specs.Bytes.{changes, left-bytes, cleared};
 ghost use Rattle.edge_c.specs.Calls.{run-bytes-give};

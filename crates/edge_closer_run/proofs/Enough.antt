@@ -14,7 +14,8 @@ use Rattle.dictionary_layout.specs.Terms.{Term, start-terms, run-terms}
 use Rattle.dictionary_layout.specs.Layout.{Dict, size, layout}
 use Rattle.dictionary_layout.specs.Dictionary.{All-put, full, all-put, put-all}
 use Rattle.dictionary_layout.proofs.Reachable.{on-layout}
-use Rattle.driver_load.specs.Lent.{Lent, lent, outcome-answer, closed}
+use Rattle.driver_refusals.specs.Lent.{Lent, lent}
+use Rattle.driver_load.specs.Closed.{outcome-answer, closed}
 use Rattle.driver_run.specs.Run.{Run-result, unchanged, run-all-put, run-passed, abstract-run, run-laid, run-gives}
 use Rattle.driver_refusals.specs.RunRefusals.{refusal-if, first-refusal, run-refusals}
 use Rattle.edge_closer_text.specs.Input.{input, parse}

@@ -7,7 +7,7 @@ use Prim.Native.Nat.{ℕ, zero, suc, _+_, _/_, _≤_}
 use native.Mathlib.Omega.{arith}
 use lib.ListN.{length, getD, take, replicate}
 use Rattle.common.specs.Triples.{Triple, Finding, if, no-zero, without-zero}
-use Rattle.meaning.specs.Closure.{closure, findings, five-counts, total}
+use Rattle.meaning.specs.Closure.{closure, five-counts, total}
 use Rattle.common.specs.Rows.{triples}
 use Rattle.meaning.proofs.Run.{accepted→}
 use Rattle.meaning.proofs.Counts.{total-findings}
@@ -15,7 +15,8 @@ use Rattle.dictionary_layout.specs.Layout.{Dict, decode}
 use Rattle.dictionary_layout.specs.Dictionary.{valid}
 use Rattle.dictionary_layout.specs.Calls.{Start-result, start-gives}
 use Rattle.dictionary_layout.specs.Terms.{Term}
-use Rattle.driver_load.specs.Lent.{Lent, lent, Run-answer, containers}
+use Rattle.driver_refusals.specs.Lent.{Lent, lent}
+use Rattle.driver_load.specs.Closed.{Run-answer, containers}
 use Rattle.driver_run.specs.Run.{Run-result, unchanged, run-laid, abstract-run, run-gives}
 use Rattle.driver_run.specs.Values.{run-left}
 use Rattle.driver_load.specs.declared.values.RunAnswer.{RunAnswer}

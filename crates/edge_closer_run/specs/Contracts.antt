@@ -4,7 +4,7 @@ use mathlib.Core.List.{List}
 use Prim.Native.Nat.{ℕ}
 use lib.ListN.{length, take}
 use Rattle.edge_decimal.specs.Contracts.{Wrote}
-use Rattle.driver_load.specs.Lent.{Run-answer}
+use Rattle.driver_load.specs.Closed.{Run-answer}
 use Rattle.driver_load.specs.declared.values.RunAnswer.{RunAnswer}
 use Rattle.edge_closer_run.specs.Program.{output}
 

@@ -7,7 +7,8 @@ use Rattle.meaning.specs.Closure.{total}
 use Rattle.dictionary_layout.specs.Terms.{term}
 use Rattle.dictionary_layout.specs.Layout.{Dict}
 use Rattle.dictionary_layout.specs.Calls.{start-gives, put-gives}
-use Rattle.driver_load.specs.Lent.{Run-answer, lent}
+use Rattle.driver_refusals.specs.Lent.{lent}
+use Rattle.driver_load.specs.Closed.{Run-answer}
 use Rattle.driver_run.specs.Run.{run-gives}
 use Rattle.edge_closer_text.specs.Sizes.{store-length, findings-length}
 use Rattle.edge_closer_text.specs.Input.{Parsed, bad-line, input, parse}

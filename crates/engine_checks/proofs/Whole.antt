@@ -10,13 +10,12 @@ use lib.ListN.{length, replicate}
 use Rattle.common.specs.Sizes.{finding-width, finding-limit}
 use Rattle.common.specs.Triples.{Finding, In, key-finding, Ascending, Distinct, insert-all}
 use Rattle.meaning.specs.Closure.{findings, count-of, five-counts}
-use Rattle.common.specs.Rows.{flat-findings, filled}
+use Rattle.common.specs.Rows.{flat-findings, filled, cleared}
 use Rattle.common.proofs.Lists.{in-nil, in-cons}
 use Rattle.common.proofs.Order.{same-list, sub-length, in-insert-all→, in-insert-all-new, ascending-insert-all, insert-distinct}
 use Rattle.common.proofs.Order.{finding-tells}
 use Rattle.meaning.proofs.Checks.{findings-ascending, findings→, findings←}
 use Rattle.store_rows.specs.Rows.{rows, findingAt, finding-rows}
-use Rattle.store_rows.specs.Zeros.{cleared}
 use Rattle.store_rows.proofs.Listed.{listed-none, length-listed}
 use Rattle.store_sort.specs.Sorted.{Sorted}
 use Rattle.store_sort.proofs.Filled.{findings-left}

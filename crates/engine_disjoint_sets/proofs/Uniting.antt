@@ -14,8 +14,8 @@ use Rattle.engine_disjoint_sets.proofs.Roots.{root-is, root-low, root-p
 use Rattle.engine_disjoint_sets.proofs.Hanging.{merge-same, hang-forest, hang-roots}
 
 -- a find leaves a place a place
-pub place-kept : {p r q : ℕ} {l m : List ℕ} → Rooted p r l m → PlaceIn l q → PlaceIn m q
-place-kept v h = record { is-place = h .is-place; within = omega (arith, h .within, v .kept .same-length); small = h .small }
+pub place-later : {p r q : ℕ} {l m : List ℕ} → Rooted p r l m → PlaceIn l q → PlaceIn m q
+place-later v h = record { is-place = h .is-place; within = omega (arith, h .within, v .kept .same-length); small = h .small }
 
 -- the root found is a place
 pub place-found : {p r : ℕ} {l m : List ℕ} → Forest l → Rooted p r l m → PlaceIn l p → PlaceIn m r
@@ -41,10 +41,10 @@ module _ {a b x y : ℕ} {l k m : List ℕ} (pre : Forest l × PlaceIn l a × Pl
 
   -- both roots are places
   pub found-x : PlaceIn m x
-  found-x = place-kept v (place-found (pre .0) u (pre .1))
+  found-x = place-later v (place-found (pre .0) u (pre .1))
 
   pub found-y : PlaceIn m y
-  found-y = place-found (u .kept .forest) v (place-kept u (pre .2))
+  found-y = place-found (u .kept .forest) v (place-later u (pre .2))
 
   -- the later root, high, hung under the earlier, low
   under : (high low : ℕ) → low < high → PlaceIn m high → PlaceIn m low → parent m high ≡ high → parent m low ≡ low

@@ -8,4 +8,3 @@ pub mod Membership
 pub mod Indexes
 pub mod Walking
 pub mod Removing
-pub mod Clearing

@@ -1,9 +1,8 @@
--- Rows that have an id 0, taken out, and a buffer cleared from a place on: the answer has no triple with an id 0, and zeros follow it.
--- REFERENCE 6.4 and 3.4. Assumes nothing.
+-- Rows that have an id 0, taken out: the answer has no triple with an id 0. REFERENCE 6.4. Assumes nothing.
 use mathlib.Core.Path.{_≡_}
-use mathlib.Core.List.{List, _++_}
-use Prim.Native.Nat.{ℕ, _-_, _*_, _≤_}
-use lib.ListN.{length, getD, take, replicate}
+use mathlib.Core.List.{List}
+use Prim.Native.Nat.{ℕ, _*_, _≤_}
+use lib.ListN.{length, getD}
 use Rattle.common.specs.Triples.{without-zero}
 use Rattle.store_rows.specs.Rows.{width, rows}
 
@@ -13,7 +12,3 @@ pub record Kept (n : ℕ) (l : List ℕ) (k : ℕ) (m : List ℕ) : Type 0 where
   pub few : k ≤ n
   pub kept : rows k m ≡ without-zero (rows n l)
   pub beyond : (x : ℕ) → width * n ≤ x → getD m x 0 ≡ getD l x 0
-
--- l with zeros from place k on
-unfoldable pub cleared : ℕ → List ℕ → List ℕ
-cleared k l = take k l ++ replicate (length l - k) 0

@@ -3,7 +3,7 @@
 pub mod chains; // chains.rt: the rows that have one key, the latest first
 pub mod layout; // layout.rt: the blocks of the index buffer, and the lengths of buffers
 pub mod store; // store.rt: rows read, written, compared, looked up and appended
-pub mod zeros; // zeros.rt: rows that have an id 0, taken out, and a buffer cleared
+pub mod zeros; // zeros.rt: rows that have an id 0, taken out
 
 pub use chains::BLOCK;
 pub use chains::KEYS;
@@ -33,5 +33,4 @@ pub use store::position;
 pub use store::put_row;
 pub use store::row;
 pub use store::same_triple;
-pub use zeros::clear_from;
 pub use zeros::remove_zero_rows;

@@ -1,4 +1,4 @@
-// Rows that have an id 0, taken out, and a buffer cleared behind what is to stay in it.
+// Rows that have an id 0, taken out.
 use crate::store::put_row;
 use crate::store::row;
 use common::Triple;
@@ -8,7 +8,7 @@ ghost use lib.ListN.{length};
 ghost use Rattle.common.specs.Values.{triple-of};
 ghost use Rattle.common.specs.Triples.{no-zero};
 ghost use Rattle.store_rows.specs.Rows.{width};
-ghost use Rattle.store_rows.specs.Zeros.{Kept, cleared};
+ghost use Rattle.store_rows.specs.Zeros.{Kept};
 
 // Whether no id of t is 0.
 pub fn no_zero(t: Triple) -> bool
@@ -40,15 +40,4 @@ pub fn remove_zero_rows(store: &mut [u32], n: usize) -> usize
         kept += 1;
     }
     kept
-}
-
-// All numbers from place k on become 0.
-pub fn clear_from(buf: &mut [u32], k: usize)
-    ensures { λ _. ⌜ now (buf .exit) ≡ cleared k (now (buf .entry)) ⌝ }
-{
-    let mut i = k;
-    while i < buf.len() {
-        buf[i] = 0;
-        i += 1;
-    }
 }

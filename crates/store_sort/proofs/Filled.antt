@@ -8,9 +8,9 @@ use native.Mathlib.Nat.{mul-suc}
 use lib.ListN.{length, getD, take, drop, replicate}
 use lib.Seq.{length-take-le, take-add, drop-cons}
 use Rattle.common.specs.Triples.{Triple, Finding, concat-map, key-triple, key-finding, Distinct, insert-all, without-zero}
-use Rattle.common.specs.Rows.{flat, flat-findings, filled}
+use Rattle.common.specs.Rows.{flat, flat-findings, filled, cleared}
 use Rattle.store_rows.specs.Rows.{width, rowAt, listed, rows, findingAt, finding-rows}
-use Rattle.store_rows.specs.Zeros.{Kept, cleared}
+use Rattle.store_rows.specs.Zeros.{Kept}
 use Rattle.store_rows.proofs.Listed.{length-listed}
 use Rattle.store_rows.proofs.Removing.{concat-snoc}
 use Rattle.store_sort.specs.Sorted.{numbers, row-numbers, Sorted}

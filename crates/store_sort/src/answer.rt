@@ -1,7 +1,7 @@
 // What stands in the store at the end: the rows in order, without those that have an id 0, then zeros.
 use crate::sort::sort_rows;
 use common::STORE_WIDTH;
-use store_rows::clear_from;
+use common::clear_from;
 use store_rows::remove_zero_rows;
 ghost use Rattle.store_sort.specs.Answer.{DistinctRows, Answer};
 

@@ -1,34 +1,12 @@
--- Loops that write a row, or a memory, place by place. Assumes nothing.
-use mathlib.Core.Path.{_≡_, refl, sym, _∙_, ap}
+-- Loops that write a row to a memory, place by place, and lengths in a cell. Assumes nothing.
+use mathlib.Core.Path.{_≡_, refl, _∙_, ap}
 use mathlib.Core.List.{List}
 use Prim.Native.Nat.{ℕ, _+_, _≤_, _<_}
 use native.Mathlib.Omega.{arith}
 use native.Mathlib.Numerals.{add-one}
-use native.Mathlib.Decide.{ℕ-discrete}
 use lib.ListN.{length, getD, set, length-set}
-use lib.Seq.{getD-set-same, getD-set-other}
 use borrow.Author.Tests.{lt-ltb, le-ltb}
-use Rattle.trial_buffers.specs.Memory.{cell-from, length-at, Each, given}
-
--- the first i places are written
-pub record Filled (f : ℕ → ℕ) (a₀ a : List ℕ) (i : ℕ) : Type 0 where
-  pub within : i ≤ length a₀
-  pub long : length a ≡ length a₀
-  pub each : (k : ℕ) → k < i → getD a k 0 ≡ f k
-
-pub fill-start : (f : ℕ → ℕ) (a : List ℕ) → Filled f a a 0
-fill-start f a = record { within = omega arith; long = refl; each = λ k h. absurd (omega arith) }
-
-module _ {f : ℕ → ℕ} {a₀ a : List ℕ} {i : ℕ} (c : Filled f a₀ a i) where
-  pub fill-more : (v : ℕ) → i < length a → v ≡ f i → Filled f a₀ (set a i v) (i + 1)
-  fill-more v h e = record { within = omega (arith, c .long); long = simp length-set (c .long); each = λ k l. go k l (ℕ-discrete k i) }
-    where
-      go : (k : ℕ) → k < i + 1 → Dec (k ≡ i) → getD (set a i v) k 0 ≡ f k
-      go k l (yes q) = ap (λ (j : ℕ). getD (set a i v) j 0) q ∙ getD-set-same a i v 0 h ∙ e ∙ ap f (sym q)
-      go k l (no n) = getD-set-other a i k v 0 n ∙ c .each k (omega arith)
-
-  pub fill-end : length a ≤ i → Each f a
-  fill-end h k l = c .each k (omega arith)
+use Rattle.trial_buffers.specs.Memory.{cell-from, length-at, given}
 
 -- the first i numbers are given
 pub record Gave (m₀ : List ℕ) (at : ℕ) (row m : List ℕ) (i : ℕ) : Type 0 where

@@ -11,6 +11,8 @@ use dictionary_layout::bytes::same_numbers;
 use edge_records::FindingRecord;
 use lent::fill_lent;
 use lent::put_lent;
+use trial_buffers::tally::Tally;
+use trial_buffers::tally::no_calls;
 ghost use Prim.Native.Nat.{_≤_, _<_};
 
 // The dictionary: 33 entries, and an arena of 12 bytes more than a start takes.
@@ -20,28 +22,6 @@ const ARENA: usize = 1337;
 
 // The greatest id.
 const MOST: u32 = 4294967295;
-
-// What a list has shown so far.
-struct Tally {
-    calls: u32,
-    differences: u32,
-}
-
-fn no_calls() -> Tally {
-    Tally {
-        calls: 0,
-        differences: 0,
-    }
-}
-
-impl Tally {
-    fn with(self, agrees: bool) -> Tally {
-        Tally {
-            calls: std::num::wrapping_add_u32(self.calls, 1),
-            differences: std::num::wrapping_add_u32(self.differences, !agrees as u32),
-        }
-    }
-}
 
 fn print_list(name: &[u8], tally: Tally) {
     io::write_all(1, name);
@@ -108,9 +88,10 @@ fn step(
     let stays = same_numbers(&old_table, &*table) && same_bytes(&old_arena, &*arena);
     let answers = next.number == due.number && id.0 == due.id;
     let counts = counters.terms == due.terms && counters.used == due.used;
+    let agrees = answers && counts && stays == due.stays;
     State {
         counters,
-        tally: tally.with(answers && counts && stays == due.stays),
+        tally: tally.with(1, !agrees as u32),
     }
 }
 
@@ -257,7 +238,8 @@ fn filled(tally: Tally, m: usize, n: usize, number: u32, due: [FindingRecord; 4]
     ];
     let given = fill_lent(&numbers[..m], marks(), n);
     let records = given.records;
-    tally.with(given.number == number && same_findings(records, due))
+    let agrees = given.number == number && same_findings(records, due);
+    tally.with(1, !agrees as u32)
 }
 
 // None, one, three and four findings.

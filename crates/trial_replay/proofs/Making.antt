@@ -14,7 +14,7 @@ use Rattle.dictionary_layout.specs.Values.{contents}
 use Rattle.dictionary_layout.specs.Dictionary.{Lookup-answer}
 use Rattle.dictionary_layout.specs.Calls.{Start-result, Put-result, start-gives, put-gives, lookup-gives}
 use Rattle.dictionary_layout.proofs.Decoding.{length-span}
-use Rattle.driver_load.specs.Lent.{Lent, lent}
+use Rattle.driver_refusals.specs.Lent.{Lent, lent}
 use Rattle.driver_run.specs.Run.{Run-result, run-gives}
 use Rattle.trial_buffers.specs.Memory.{cell-from, length-at, Each}
 use Rattle.trial_replay.specs.Made.{numbers-from, bytes-from, give, Held, held, answered, start-made, put-made, narrowed}

@@ -7,7 +7,7 @@ use Rattle.common.specs.Triples.{if}
 use Rattle.dictionary_layout.specs.Terms.{term}
 use Rattle.dictionary_layout.specs.Layout.{Dict, dict, span}
 use Rattle.dictionary_layout.specs.Calls.{start-gives, put-gives, lookup-gives}
-use Rattle.driver_load.specs.Lent.{Lent, lent}
+use Rattle.driver_refusals.specs.Lent.{Lent, lent}
 use Rattle.driver_run.specs.Run.{run-gives}
 use Rattle.trial_buffers.specs.Memory.{cell-from, length-at, given}
 use Rattle.trial_replay.specs.Cells.{table-length-cell, arena-length-cell, term-length-cell, load-length-cell, store-length-cell}

@@ -15,7 +15,7 @@ use trial_buffers::memory::take_bytes;
 use trial_buffers::memory::take_numbers;
 ghost use mathlib.Core.Path.{_≡_};
 ghost use lib.ListN.{length, getD, set};
-ghost use Rattle.driver_load.specs.Lent.{lent};
+ghost use Rattle.driver_refusals.specs.Lent.{lent};
 ghost use Rattle.trial_replay.specs.Cells.{terms-cell, used-cell, count-cell, counts-cells, term-cells, term-room};
 ghost use Rattle.trial_replay.specs.Made.{bytes-from, give, held, answered, start-made, put-made, narrowed, lookup-made};
 ghost use Rattle.trial_replay.specs.Made.{run-held, run-part, run-lent, run-taken, run-made, made-on, made-lent, made};

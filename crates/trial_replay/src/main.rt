@@ -7,12 +7,12 @@ use calls::LOAD;
 use calls::LOAD_ROOM;
 use lines::Turn;
 use lines::play_line;
-use report::Tally;
 use report::end_list;
-use report::no_calls;
 use report::print_difference;
 use report::print_unreadable;
 use trial_buffers::reader::read_number;
+use trial_buffers::tally::Tally;
+use trial_buffers::tally::no_calls;
 
 // The cells of a memory: those of the load are the last.
 const CELLS: usize = LOAD + LOAD_ROOM;
@@ -49,7 +49,7 @@ fn played(turn: Turn, tally: Tally, line: usize) -> Progress {
         print_difference(line);
     }
     Progress {
-        tally: tally.with(turn),
+        tally: tally.with(turn.calls, turn.differences),
         at: turn.at,
         ok: turn.ok,
     }

@@ -1,43 +1,15 @@
 // What the program prints.
-use crate::lines::Turn;
 use trial_buffers::reader::Cursor;
 use trial_buffers::reader::read_bytes;
 use trial_buffers::reader::read_number;
+use trial_buffers::tally::Tally;
 ghost use mathlib.Core.Path.{_≡_};
-ghost use Prim.Native.Nat.{_+_, _%_, _^_};
 ghost use lib.ListN.{length};
 ghost use Rattle.trial_buffers.specs.Reading.{cursor-after, is-byte};
 ghost use Rattle.trial_replay.specs.Text.{name-limit, list-end};
 
 // The longest name of a list.
 const NAME_LIMIT: usize = 60;
-
-// What a list has shown so far.
-pub struct Tally {
-    pub calls: u32,
-    pub differences: u32,
-}
-
-pub fn no_calls() -> Tally
-    ensures { λ r. ⌜ r ≡ record { calls = 0; differences = 0 } ⌝ }
-{
-    Tally {
-        calls: 0,
-        differences: 0,
-    }
-}
-
-impl Tally {
-    pub fn with(self, turn: Turn) -> Tally
-        ensures { λ r. ⌜ r .calls ≡ (self .calls + turn .calls) % 2 ^ 32 ⌝ }
-        ensures { λ r. ⌜ r .differences ≡ (self .differences + turn .differences) % 2 ^ 32 ⌝ }
-    {
-        Tally {
-            calls: std::num::wrapping_add_u32(self.calls, turn.calls),
-            differences: std::num::wrapping_add_u32(self.differences, turn.differences),
-        }
-    }
-}
 
 fn print_line(what: &[u8], line: usize) {
     io::write_all(1, what);

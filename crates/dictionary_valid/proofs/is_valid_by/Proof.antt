@@ -75,8 +75,8 @@ hash-start-requires : tie.Need-hash-start-requires
 hash-start-requires c κs =
     let at-if4 = c .before .before in
     let after-begins-fresh = at-if4 .before in
-    let at-start = after-begins-fresh .before .before .before .before .before .before .before .before .before .before .before
-    .before .before .before .before .before in
+    let at-if3 = after-begins-fresh .before .before .before .before .before .before .before .before in
+    let at-start = at-if3 .before .before .before .before .before .before .before .before in
     (after-begins-fresh .begins-fresh .ensures .yes (at-if4 .if4 .taken), hashed-none (at-start .pre .0) (at-start .pre .1))
 
 slice-aggregate-scan : tie.Need-slice-aggregate-scan
@@ -104,8 +104,8 @@ slice-aggregate-ends-so c = search needs
 ends-so-requires : tie.Need-ends-so-requires
 ends-so-requires c κs =
     let after-scan = c .before .before .before .before .before in
-    let after-enter-all = after-scan .before .before .before .before .before .before .before .before .before .before .before
-    .before .before .before in (
+    let after-hash-start = after-scan .before .before .before .before .before in
+    let after-enter-all = after-hash-start .before .before .before .before .before .before .before .before .before in (
       after-scan .scan .ensures .yes (c .before .if5 .taken),
       omega (arith, after-scan .scan .kept .1 .1 .0, after-enter-all .enter-all .kept .0),
     )
@@ -122,15 +122,16 @@ same-length-2 c = search needs
 returns-5 : tie.Need-returns-5
 returns-5 c =
     let after-scan = c .before .before .before .before in
-    let z = after-scan .before .before .before .before .before .before .before .before .before .before .before .before .before
-    .before .before .before .before .before .before .before .before .before .before .before .before in
+    let after-begins-fresh = after-scan .before .before .before .before .before .before .before .before .before in
+    let after-enter-all = after-begins-fresh .before .before .before .before .before in
+    let z = after-enter-all .before .before .before .before .before .before .before .before .before .before .before in
     let d = contents (z .args .table .now) (z .args .arena .now) (z .args .counters) in
     is-false (valid d) (after-scan .scan .ensures .no (c .if5 .left) (z .args .counters .used))
 
 returns-6 : tie.Need-returns-6
 returns-6 c =
-    let z = c .before .before .before .before .before .before .before .before .before .before .before .before .before .before
-    .before .before .before in
+    let after-enter-all = c .before .before .before .before .before .before in
+    let z = after-enter-all .before .before .before .before .before .before .before .before .before .before .before in
     let d = contents (z .args .table .now) (z .args .arena .now) (z .args .counters) in
     is-false (valid d) (c .before .begins-fresh .ensures .no (c .if4 .left) (z .args .counters .terms) (z .args .counters .used))
 

@@ -4,8 +4,8 @@ use Prim.Native.Nat.{ℕ, _*_}
 use native.Mathlib.Omega.{arith}
 use lib.ListN.{length-replicate}
 use Rattle.store_rows.specs.Chains.{keys, block}
-use Rattle.driver_load.specs.Lent.{Lent, lent}
-use Rattle.engine_disjoint_sets.proofs.Making.{clear-all}
+use Rattle.driver_refusals.specs.Lent.{Lent, lent}
+use Rattle.common.proofs.Filling.{clear-all}
 use Rattle.driver_load.proofs.Answering.{arrays-unused, zeros-again, outcome-answered, outcome-refused}
 use Rattle.driver_load.proofs.run_load.Statement.{statement}
 use Rattle.driver_load.proofs.run_load.Tie as tie

@@ -8,7 +8,7 @@ use lib.ListN.{length}
 use borrow.Author.Tests.{eq-eqb, ne-eqb, lt-ltb, le-ltb, not-true, not-false}
 use Rattle.common.specs.Sizes.{load-width, load-limit, store-width, store-limit, finding-width, finding-limit, work-width}
 use Rattle.common.specs.Sizes.{run-terms-count}
-use Rattle.driver_load.specs.Lent.{lent}
+use Rattle.driver_refusals.specs.Lent.{lent}
 use Rattle.driver_refusals.specs.RunRefusals.{Refusal, run-refusals}
 use Rattle.driver_refusals.proofs.Refusing.{Past, past-more, first-met, none-met}
 use borrow.Author.Needs.{needs}

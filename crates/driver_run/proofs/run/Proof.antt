@@ -7,7 +7,8 @@ use Rattle.dictionary_layout.specs.Values.{contents}
 use Rattle.driver_refusals.specs.RunRefusals.{first-refusal, run-refusals}
 use Rattle.dictionary_run_terms.specs.Calls.{Run-terms-result, run-terms-left}
 use Rattle.driver_run.specs.declared.values.RunNext.{RunNext}
-use Rattle.driver_load.specs.Lent.{Lent, Run-answer, lent}
+use Rattle.driver_refusals.specs.Lent.{Lent, lent}
+use Rattle.driver_load.specs.Closed.{Run-answer}
 use Rattle.driver_run.specs.Run.{unchanged}
 use Rattle.driver_run.specs.Values.{run-leaves}
 use Rattle.driver_run.proofs.Running.{run-broken, run-refused, run-refused-7, held-then, run-done, termed, loaded, buffer}

@@ -8,6 +8,10 @@ use Rattle.edge_c.proofs.Forwarding.{arrays}
 use Rattle.edge_c.proofs.tablestork_run.Statement.{statement}
 use Rattle.edge_c.proofs.tablestork_run.Tie as tie
 
+-- the state after the call of `run_in`, from the end
+abbrev after-run-in : tie.After-five → tie.After-run-in
+after-run-in c = let after-table = c .before .before .before .before .before .before .before .before .before .before in after-table .before .before .before .before .before .before
+
 slice-aggregate-run-in : tie.Need-slice-aggregate-run-in
 slice-aggregate-run-in c = sym (length-replicate {A = ℕ} table-limit 0)
 
@@ -27,40 +31,22 @@ run-in-requires : tie.Need-run-in-requires
 run-in-requires c κs = arrays
 
 same-length : tie.Need-same-length
-same-length c =
-    let after-run-in = c .before .before .before .before .before .before .before .before .before .before .before .before .before
-    .before .before .before in
-    after-run-in .run-in .kept .1 .1 .1 .1 .1 .0
+same-length c = after-run-in c .run-in .kept .1 .1 .1 .1 .1 .0
 
 same-length-2 : tie.Need-same-length-2
-same-length-2 c =
-    let after-run-in = c .before .before .before .before .before .before .before .before .before .before .before .before .before
-    .before .before .before in
-    after-run-in .run-in .kept .1 .1 .1 .1 .1 .1 .0
+same-length-2 c = after-run-in c .run-in .kept .1 .1 .1 .1 .1 .1 .0
 
 same-length-3 : tie.Need-same-length-3
-same-length-3 c =
-    let after-run-in = c .before .before .before .before .before .before .before .before .before .before .before .before .before
-    .before .before .before in
-    after-run-in .run-in .kept .1 .1 .1 .1 .1 .1 .1 .1 .1 .1 .0
+same-length-3 c = after-run-in c .run-in .kept .1 .1 .1 .1 .1 .1 .1 .1 .1 .1 .0
 
 same-length-4 : tie.Need-same-length-4
-same-length-4 c =
-    let after-run-in = c .before .before .before .before .before .before .before .before .before .before .before .before .before
-    .before .before .before in
-    after-run-in .run-in .kept .1 .1 .1 .1 .1 .1 .1 .1 .1 .1 .1 .0
+same-length-4 c = after-run-in c .run-in .kept .1 .1 .1 .1 .1 .1 .1 .1 .1 .1 .1 .0
 
 same-length-5 : tie.Need-same-length-5
-same-length-5 c =
-    let after-run-in = c .before .before .before .before .before .before .before .before .before .before .before .before .before
-    .before .before .before in
-    after-run-in .run-in .kept .1 .1 .1 .1 .1 .1 .1 .1 .1 .1 .1 .1 .0
+same-length-5 c = after-run-in c .run-in .kept .1 .1 .1 .1 .1 .1 .1 .1 .1 .1 .1 .1 .0
 
 returns : tie.Need-returns
-returns c =
-    let after-run-in = c .before .before .before .before .before .before .before .before .before .before .before .before .before
-    .before .before .before in
-    after-run-in .run-in .ensures
+returns c = after-run-in c .run-in .ensures
 
 pub tablestork-run-spec : {M : Type 1} → statement M
 tablestork-run-spec =

@@ -20,6 +20,9 @@ fill-lent-requires c κs = search needs
 same-findings-requires : tie.Need-same-findings-requires
 same-findings-requires c κs = search needs
 
+cast-with : tie.Need-cast-with
+cast-with c = search needs
+
 with-requires : tie.Need-with-requires
 with-requires c κs = search needs
 
@@ -35,5 +38,6 @@ filled-spec =
     marks-requires
     fill-lent-requires
     same-findings-requires
+    cast-with
     with-requires
     returns)

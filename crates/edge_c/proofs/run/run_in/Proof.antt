@@ -1,7 +1,7 @@
 -- `edge_c::run::run_in` meets its contract. Assumes nothing.
 use Prim.Native.Nat.{_/_}
 use lib.ListN.{length}
-use Rattle.driver_load.specs.Lent.{lent}
+use Rattle.driver_refusals.specs.Lent.{lent}
 use Rattle.edge_c.proofs.Forwarding.{table-enough, load-enough, store-enough, findings-enough, work-enough, few-more, Prefix}
 use Rattle.edge_c.proofs.Forwarding.{prefix, all-forwarded}
 use Rattle.edge_c.proofs.run.run_in.Statement.{statement}
@@ -53,6 +53,13 @@ module _ (s : tie.After-how-many5) where
   work-prefix =
       let enough = work-enough (at-start .args .w .now) (at-start .pre .work-room) in
       prefix enough (at-start .args .work .now) (s .how-many5 .ensures)
+
+-- the state at the end, and those before it: after the last buffer of numbers came back, and after the call of `run_on`
+abbrev after-w : tie.After-slice-known20 → tie.After-w
+after-w c = c .before .before .before .before .before .before .before .before .before .before .before
+
+abbrev after-run-on : tie.After-slice-known20 → tie.After-run-on
+after-run-on c = after-w c .before .before .before .before .before .before .before .before .before
 
 how-many-requires : tie.Need-how-many-requires
 how-many-requires c κs = tt
@@ -123,67 +130,44 @@ run-on-requires c κs =
 
 same-length : tie.Need-same-length
 same-length c =
-    let after-t = c .before .before .before .before .before .before .before .before .before .before .before .before .before
-    .before .before .before .before .before .before in
+    let after-t = after-w c .before .before .before .before .before .before .before .before in
     after-t .t .given .1
 
 same-length-2 : tie.Need-same-length-2
 same-length-2 c =
-    let after-l = c .before .before .before .before .before .before .before .before .before .before .before .before .before
-    .before .before .before .before in
+    let after-l = after-w c .before .before .before .before .before .before in
     after-l .l .given .1
 
 same-length-3 : tie.Need-same-length-3
 same-length-3 c =
-    let after-s = c .before .before .before .before .before .before .before .before .before .before .before .before .before
-    .before .before in
+    let after-s = after-w c .before .before .before .before in
     after-s .s .given .1
 
 same-length-4 : tie.Need-same-length-4
 same-length-4 c =
-    let after-f = c .before .before .before .before .before .before .before .before .before .before .before .before .before in
+    let after-f = after-w c .before .before in
     after-f .f .given .1
 
 same-length-5 : tie.Need-same-length-5
-same-length-5 c =
-    let after-w = c .before .before .before .before .before .before .before .before .before .before .before in
-    after-w .w .given .1
+same-length-5 c = after-w c .w .given .1
 
 same-length-6 : tie.Need-same-length-6
-same-length-6 c =
-    let after-run-on = c .before .before .before .before .before .before .before .before .before .before .before .before .before
-    .before .before .before .before .before .before .before in
-    after-run-on .run-on .kept .1 .1 .1 .1 .1 .0
+same-length-6 c = after-run-on c .run-on .kept .1 .1 .1 .1 .1 .0
 
 same-length-7 : tie.Need-same-length-7
-same-length-7 c =
-    let after-run-on = c .before .before .before .before .before .before .before .before .before .before .before .before .before
-    .before .before .before .before .before .before .before in
-    after-run-on .run-on .kept .1 .1 .1 .1 .1 .1 .0
+same-length-7 c = after-run-on c .run-on .kept .1 .1 .1 .1 .1 .1 .0
 
 same-length-8 : tie.Need-same-length-8
-same-length-8 c =
-    let after-run-on = c .before .before .before .before .before .before .before .before .before .before .before .before .before
-    .before .before .before .before .before .before .before in
-    after-run-on .run-on .kept .1 .1 .1 .1 .1 .1 .1 .1 .1 .0
+same-length-8 c = after-run-on c .run-on .kept .1 .1 .1 .1 .1 .1 .1 .1 .1 .0
 
 same-length-9 : tie.Need-same-length-9
-same-length-9 c =
-    let after-run-on = c .before .before .before .before .before .before .before .before .before .before .before .before .before
-    .before .before .before .before .before .before .before in
-    after-run-on .run-on .kept .1 .1 .1 .1 .1 .1 .1 .1 .1 .1 .0
+same-length-9 c = after-run-on c .run-on .kept .1 .1 .1 .1 .1 .1 .1 .1 .1 .1 .0
 
 same-length-10 : tie.Need-same-length-10
-same-length-10 c =
-    let after-run-on = c .before .before .before .before .before .before .before .before .before .before .before .before .before
-    .before .before .before .before .before .before .before in
-    after-run-on .run-on .kept .1 .1 .1 .1 .1 .1 .1 .1 .1 .1 .1 .0
+same-length-10 c = after-run-on c .run-on .kept .1 .1 .1 .1 .1 .1 .1 .1 .1 .1 .1 .0
 
 returns : tie.Need-returns
-returns c =
-    let after-run-on = c .before .before .before .before .before .before .before .before .before .before .before .before .before
-    .before .before .before .before .before .before .before in
-    after-run-on .run-on .ensures
+returns c = after-run-on c .run-on .ensures
 
 pub run-in-spec : {M : Type 1} → statement M
 run-in-spec =

@@ -4,7 +4,7 @@ use mathlib.Core.List.{List}
 use Prim.Native.Nat.{ℕ}
 use Rattle.dictionary_layout.specs.Layout.{Dict}
 use Rattle.dictionary_layout.specs.Values.{contents}
-use Rattle.driver_load.specs.Lent.{Lent, lent}
+use Rattle.driver_refusals.specs.Lent.{Lent, lent}
 use Rattle.edge_c.proofs.Forwarding.{Passed, all-read}
 use Rattle.edge_c.proofs.Runs.{rooms, run-done}
 use Rattle.edge_c.proofs.run.run_on.Statement.{statement}
@@ -40,6 +40,13 @@ module _ (s : tie.After-run) where
       let q = load-read .read-numbers2 in
       all-read (at-start .pre) (p .kept .1 .0) (p .ensures) (q .kept .1 .0) (q .ensures)
 
+-- the state at the end, and those before it: after the call of `write_all`, and, from its last argument, after the run
+abbrev after-write-all : tie.After-slice-known21 → tie.After-write-all
+after-write-all c = c .before .before .before .before .before .before .before .before
+
+abbrev after-run : tie.After-write-all-arg7 → tie.After-run
+after-run c = let after-w = c .before .before .before .before .before .before .before .before in after-w .before .before .before .before .before .before .before .before .before
+
 read-numbers-requires : tie.Need-read-numbers-requires
 read-numbers-requires c κs = tt
 
@@ -51,75 +58,58 @@ run-requires c κs = tt
 
 write-all-requires : tie.Need-write-all-requires
 write-all-requires c κs =
-    let after-run = c .before .before .before .before .before .before .before .before .before .before .before .before
-    .before .before .before .before .before in
-    let r = after-run .run in
-    rooms (d after-run) (passed after-run) (r .result) (r .ensures) (r .kept .0) (r .kept .1 .1 .1 .1 .0) (r .kept .1 .1 .1 .1 .1 .0)
+    let s = after-run c in
+    let r = s .run in
+    rooms (d s) (passed s) (r .result) (r .ensures) (r .kept .0) (r .kept .1 .1 .1 .1 .0) (r .kept .1 .1 .1 .1 .1 .0)
 
 same-length : tie.Need-same-length
 same-length c =
-    let after-run = c .before .before .before .before .before .before .before .before .before .before .before .before
-    .before .before .before .before .before .before .before .before .before .before .before .before .before .before in
-    after-run .run .kept .0 ∙ table-read after-run .read-numbers .kept .1 .0
+    let s = after-run (after-write-all c .before) in
+    s .run .kept .0 ∙ table-read s .read-numbers .kept .1 .0
 
 same-length-2 : tie.Need-same-length-2
 same-length-2 c =
-    let after-run = c .before .before .before .before .before .before .before .before .before .before .before .before
-    .before .before .before .before .before .before .before .before .before .before .before .before .before .before in
-    load-read after-run .read-numbers2 .kept .1 .0
+    let s = after-run (after-write-all c .before) in
+    load-read s .read-numbers2 .kept .1 .0
 
 same-length-3 : tie.Need-same-length-3
 same-length-3 c =
-    let after-run = c .before .before .before .before .before .before .before .before .before .before .before .before
-    .before .before .before .before .before .before .before .before .before .before .before .before .before .before in
-    after-run .run .kept .1 .1 .1 .1 .0
+    let s = after-run (after-write-all c .before) in
+    s .run .kept .1 .1 .1 .1 .0
 
 same-length-4 : tie.Need-same-length-4
 same-length-4 c =
-    let after-run = c .before .before .before .before .before .before .before .before .before .before .before .before
-    .before .before .before .before .before .before .before .before .before .before .before .before .before .before in
-    after-run .run .kept .1 .1 .1 .1 .1 .0
+    let s = after-run (after-write-all c .before) in
+    s .run .kept .1 .1 .1 .1 .1 .0
 
 same-length-5 : tie.Need-same-length-5
 same-length-5 c =
-    let after-run = c .before .before .before .before .before .before .before .before .before .before .before .before
-    .before .before .before .before .before .before .before .before .before .before .before .before .before .before in
-    after-run .run .kept .1 .1 .1 .1 .1 .1 .0
+    let s = after-run (after-write-all c .before) in
+    s .run .kept .1 .1 .1 .1 .1 .1 .0
 
 same-length-6 : tie.Need-same-length-6
-same-length-6 c =
-    let after-write-all = c .before .before .before .before .before .before .before .before in
-    after-write-all .write-all .kept .1 .1 .1 .1 .0
+same-length-6 c = after-write-all c .write-all .kept .1 .1 .1 .1 .0
 
 same-length-7 : tie.Need-same-length-7
 same-length-7 c =
-    let after-run = c .before .before .before .before .before .before .before .before .before .before .before .before
-    .before .before .before .before .before .before .before .before .before .before .before .before .before .before in
-    after-run .run .kept .1 .0
+    let s = after-run (after-write-all c .before) in
+    s .run .kept .1 .0
 
 same-length-8 : tie.Need-same-length-8
-same-length-8 c =
-    let after-write-all = c .before .before .before .before .before .before .before .before in
-    after-write-all .write-all .kept .1 .1 .1 .1 .1 .0
+same-length-8 c = after-write-all c .write-all .kept .1 .1 .1 .1 .1 .0
 
 same-length-9 : tie.Need-same-length-9
-same-length-9 c =
-    let after-write-all = c .before .before .before .before .before .before .before .before in
-    after-write-all .write-all .kept .1 .1 .1 .1 .1 .1 .0
+same-length-9 c = after-write-all c .write-all .kept .1 .1 .1 .1 .1 .1 .0
 
 same-length-10 : tie.Need-same-length-10
-same-length-10 c =
-    let after-write-all = c .before .before .before .before .before .before .before .before in
-    after-write-all .write-all .kept .1 .1 .1 .1 .1 .1 .1 .0
+same-length-10 c = after-write-all c .write-all .kept .1 .1 .1 .1 .1 .1 .1 .0
 
 returns : tie.Need-returns
 returns c =
-    let after-write-all = c .before .before .before .before .before .before .before .before in
-    let after-run = after-write-all .before .before .before .before .before .before .before .before .before .before .before
-    .before .before .before .before .before .before .before in
-    let r = after-run .run in
-    let w = after-write-all .write-all .ensures in
-    run-done (d after-run) (passed after-run) (r .result) (r .ensures) (w .0) (w .1) (w .2) (w .3)
+    let s = after-run (after-write-all c .before) in
+    let r = s .run in
+    let w = after-write-all c .write-all .ensures in
+    run-done (d s) (passed s) (r .result) (r .ensures) (w .0) (w .1) (w .2) (w .3)
 
 pub run-on-spec : {M : Type 1} → statement M
 run-on-spec =

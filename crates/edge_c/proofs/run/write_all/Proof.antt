@@ -14,8 +14,8 @@ write-back-requires-2 c κs =
 
 write-back-requires-3 : tie.Need-write-back-requires-3
 write-back-requires-3 c κs =
-    let at-start = c .before .before .before .before .before .before .before .before .before .before .before .before .before
-    .before .before .before in
+    let after-write-back = c .before .before .before .before .before .before .before in
+    let at-start = after-write-back .before .before .before .before .before .before .before .before .before in
     λ h. at-start .pre h .findings-room
 
 clear-back-requires : tie.Need-clear-back-requires
@@ -23,8 +23,7 @@ clear-back-requires c κs = tt
 
 same-length : tie.Need-same-length
 same-length c =
-    let after-write-back = c .before .before .before .before .before .before .before .before .before .before .before .before
-    .before .before in
+    let after-write-back = c .before .before .before .before .before .before .before .before .before .before .before .before .before .before in
     after-write-back .write-back .kept .1 .1 .0
 
 same-length-2 : tie.Need-same-length-2

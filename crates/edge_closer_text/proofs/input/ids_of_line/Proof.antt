@@ -14,9 +14,19 @@ use Rattle.edge_closer_text.proofs.IdLines.{case-two, case-other, first
 use Rattle.edge_closer_text.proofs.input.ids_of_line.Statement.{statement}
 use Rattle.edge_closer_text.proofs.input.ids_of_line.Tie as tie
 
+-- the states in which the spaces, the first id and the second were known, each from the next
+abbrev after-spaces : tie.After-known-told2 → tie.After-known-told
+after-spaces k = k .before .before .before .before .before
+
+abbrev after-first : tie.After-known-told3 → tie.After-known-told2
+after-first k = k .before .before .before .before .before
+
+abbrev after-second : tie.After-known-told4 → tie.After-known-told3
+after-second k = k .before .before .before .before .before
+
 -- what is known once each answer is matched: the line with its spaces, the first id, the second, the third
 abbrev line-at : tie.After-known-told → List ℕ
-line-at k = k .before .before .before .before .before .args .line .now
+line-at k = let at-start = k .before .before .before .before .before in at-start .args .line .now
 
 abbrev a-at : tie.After-known-told → ℕ
 a-at k = k .before .a .given .0 .0
@@ -25,26 +35,19 @@ abbrev b-at : tie.After-known-told → ℕ
 b-at k = k .before .a .given .0 .1 .0
 
 spaces : (k : tie.After-known-told) → TwoSpaces (line-at k) (a-at k) (b-at k)
-spaces k = case-two (k .before .a .given .1) (k .before .before .before .two-spaces .ensures)
+spaces k = let called = k .before .before .before in case-two (k .before .a .given .1) (called .two-spaces .ensures)
 
-first : (k : tie.After-known-told2) → id (take (a-at (k .before .before .before .before .before))
-    (line-at (k .before .before .before .before .before))) ≡ some (k .before .s .given .0 .0)
-first k = case-number (k .before .s .given .1) (k .before .before .before .number .ensures)
+first : (k : tie.After-known-told2) → let s = after-spaces k in id (take (a-at s) (line-at s)) ≡ some (k .before .s .given .0 .0)
+first k = let called = k .before .before .before in case-number (k .before .s .given .1) (called .number .ensures)
 
-second : (k : tie.After-known-told3) → id (part
-    (line-at (k .before .before .before .before .before .before .before .before .before .before))
-    (a-at (k .before .before .before .before .before .before .before .before .before .before) + 1)
-    (b-at (k .before .before .before .before .before .before .before .before .before .before))) ≡ some (k .before .p .given .0 .0)
-second k = case-number (k .before .p .given .1) (k .before .before .before .number2 .ensures)
+second : (k : tie.After-known-told3)
+    → let s = after-spaces (after-first k) in id (part (line-at s) (a-at s + 1) (b-at s)) ≡ some (k .before .p .given .0 .0)
+second k = let called = k .before .before .before in case-number (k .before .p .given .1) (called .number2 .ensures)
 
-third : (k : tie.After-known-told4) → id (part
-    (line-at (k .before .before .before .before .before .before .before .before .before .before .before .before .before .before .before))
-    (b-at (k .before .before .before .before .before .before .before .before .before .before .before .before .before .before .before) +
-    1)
-    (length (line-at
-    (k .before .before .before .before .before .before .before .before .before .before .before .before .before .before .before))))
-    ≡ some (k .before .o .given .0 .0)
-third k = case-number (k .before .o .given .1) (k .before .before .before .number3 .ensures)
+third : (k : tie.After-known-told4)
+    → let s = after-spaces (after-first (after-second k)) in
+    id (part (line-at s) (b-at s + 1) (length (line-at s))) ≡ some (k .before .o .given .0 .0)
+third k = let called = k .before .before .before in case-number (k .before .o .given .1) (called .number3 .ensures)
 
 two-spaces-requires : tie.Need-two-spaces-requires
 two-spaces-requires c κs = search needs

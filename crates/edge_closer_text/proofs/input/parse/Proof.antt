@@ -71,8 +71,10 @@ returns-2 c =
 
 add-start : tie.Need-add-start Inv-loop μ-loop
 add-start c =
-    let h = c .before .loop-test .taken in let g =
-    c .before .before .before .before .before .before .before .before .before .before .before .good in omega arith
+    let at-start = c .before .before .before .before .before .before .before .before .before .before .before in
+    let h = c .before .loop-test .taken in
+    let g = at-start .good in
+    omega arith
 
 find-byte-requires-2 : tie.Need-find-byte-requires-2 Inv-loop μ-loop
 find-byte-requires-2 c κs = let h = c .before .loop-test .taken in omega arith
@@ -181,8 +183,11 @@ add-lines c =
 
 loop-less : tie.Need-loop-less Inv-loop μ-loop
 loop-less c =
-    let h = c .before .before .before .before .before .before .before .loop-test .taken in let s =
-    c .before .before .before .before .before .find-byte2 .ensures in omega arith
+    let after-find-byte2 = c .before .before .before .before .before in
+    let at-loop-test = after-find-byte2 .before .before in
+    let h = at-loop-test .loop-test .taken in
+    let s = after-find-byte2 .find-byte2 .ensures in
+    omega arith
 
 loop-again : tie.Need-loop-again Inv-loop μ-loop
 loop-again c =

@@ -4,7 +4,7 @@ use mathlib.Core.Path.{refl}
 use native.Mathlib.Omega.{arith}
 use lib.ListN.{length}
 use borrow.Author.Needs.{needs}
-use Rattle.trial_buffers.proofs.Filling.{Filled, fill-start, fill-more, fill-end}
+use Rattle.common.proofs.Filling.{Filled, fill-start, fill-more, fill-end}
 use Rattle.trial_buffers.proofs.memory.fill.Statement.{statement}
 use Rattle.trial_buffers.proofs.memory.fill.Tie as tie
 

@@ -3,7 +3,7 @@ use mathlib.Core.Path.{sym}
 use native.Mathlib.Omega.{arith}
 use lib.Seq.{length-take-le}
 use borrow.Author.Needs.{needs}
-use Rattle.driver_load.specs.Lent.{lent}
+use Rattle.driver_refusals.specs.Lent.{lent}
 use Rattle.trial_replay.specs.Made.{held}
 use Rattle.trial_replay.proofs.Making.{run-lent-is}
 use Rattle.trial_replay.proofs.calls.run_lent.Statement.{statement}

@@ -1,6 +1,6 @@
 -- `trial_replay::calls::run_load` meets its contract. Assumes nothing.
 use borrow.Author.Needs.{needs}
-use Rattle.driver_load.specs.Lent.{lent}
+use Rattle.driver_refusals.specs.Lent.{lent}
 use Rattle.trial_replay.proofs.Making.{run-is}
 use Rattle.trial_replay.proofs.calls.run_load.Statement.{statement}
 use Rattle.trial_replay.proofs.calls.run_load.Tie as tie
@@ -35,8 +35,8 @@ same-length-6 c = search needs
 returns : tie.Need-returns
 returns c =
     let after-answer-run = c .before .before in
-    let after-run = after-answer-run .before .before .before .before .before .before .before .before .before .before .before
-    .before .before .before in
+    let after-got = after-answer-run .before .before .before in
+    let after-run = after-got .before .before .before .before .before .before .before .before .before .before .before in
     let after-counters-in = after-run .before .before .before .before .before .before in
     let at-start = after-counters-in .before .before .before .before .before .before .before .before .before in
     let args = at-start .args in

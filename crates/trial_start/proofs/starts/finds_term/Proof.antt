@@ -16,7 +16,8 @@ same-length-2 c = search needs
 
 returns : tie.Need-returns
 returns c =
-    not-started (c .before .before .before .before .before .before .before .start .ensures) (c .if1 .taken)
+    let after-start = c .before .before .before .before .before .before .before in
+    not-started (after-start .start .ensures) (c .if1 .taken)
 
 slice-aggregate-put-by-value : tie.Need-slice-aggregate-put-by-value
 slice-aggregate-put-by-value c = search needs

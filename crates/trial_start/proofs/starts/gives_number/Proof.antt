@@ -15,7 +15,8 @@ same-length-2 c = search needs
 
 returns : tie.Need-returns
 returns c =
-    other-number (c .before .before .before .before .before .before .before .start .ensures) (c .if1 .taken)
+    let after-start = c .before .before .before .before .before .before .before in
+    other-number (after-start .start .ensures) (c .if1 .taken)
 
 is-started-requires : tie.Need-is-started-requires
 is-started-requires c κs = search needs
