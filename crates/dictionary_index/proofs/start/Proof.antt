@@ -32,7 +32,8 @@ enter-all-requires c κs =
     let after-start-refusal = at-if1 .before in
     let at-start = after-start-refusal .before .before .before in
     blank-cleared (length (at-start .args .table .now)) (length (at-start .args .arena .now))
-    (sym (after-start-refusal .start-refusal .ensures) ∙ at-if1 .if1 .left) (clear-all (at-start .args .table .now) (after-clear-from .clear-from .ensures))
+    (sym (after-start-refusal .start-refusal .ensures) ∙ at-if1 .if1 .left)
+    (clear-all (at-start .args .table .now) (after-clear-from .clear-from .ensures))
     (after-clear-bytes .clear-bytes .ensures)
 
 same-length : tie.Need-same-length

@@ -10,7 +10,9 @@ use Rattle.edge_c.proofs.tablestork_run.Tie as tie
 
 -- the state after the call of `run_in`, from the end
 abbrev after-run-in : tie.After-five → tie.After-run-in
-after-run-in c = let after-table = c .before .before .before .before .before .before .before .before .before .before in after-table .before .before .before .before .before .before
+after-run-in c =
+    let after-table = c .before .before .before .before .before .before .before .before .before .before in
+    after-table .before .before .before .before .before .before
 
 slice-aggregate-run-in : tie.Need-slice-aggregate-run-in
 slice-aggregate-run-in c = sym (length-replicate {A = ℕ} table-limit 0)

@@ -45,7 +45,9 @@ abbrev after-write-all : tie.After-slice-known21 → tie.After-write-all
 after-write-all c = c .before .before .before .before .before .before .before .before
 
 abbrev after-run : tie.After-write-all-arg7 → tie.After-run
-after-run c = let after-w = c .before .before .before .before .before .before .before .before in after-w .before .before .before .before .before .before .before .before .before
+after-run c =
+    let after-w = c .before .before .before .before .before .before .before .before in
+    after-w .before .before .before .before .before .before .before .before .before
 
 read-numbers-requires : tie.Need-read-numbers-requires
 read-numbers-requires c κs = tt

@@ -23,7 +23,8 @@ clear-back-requires c κs = tt
 
 same-length : tie.Need-same-length
 same-length c =
-    let after-write-back = c .before .before .before .before .before .before .before .before .before .before .before .before .before .before in
+    let after-write-back2 = c .before .before .before .before .before .before .before .before .before .before in
+    let after-write-back = after-write-back2 .before .before .before .before in
     after-write-back .write-back .kept .1 .1 .0
 
 same-length-2 : tie.Need-same-length-2
