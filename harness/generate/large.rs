@@ -10,6 +10,9 @@ use std::collections::HashSet;
 /// What a closure should come to at most; a few models come out above it, and above the store.
 const BUDGET: usize = 56_000;
 
+/// Of equal terms and mixtures so many in a hundred type properties inverse functional, and are outside the original's domain.
+const INVERSE: usize = 25;
+
 pub const KINDS: [&str; 4] = ["plant", "chains", "links", "equal"];
 
 /// A benchmark model of a kind, with exactly this many triples.
@@ -19,7 +22,7 @@ pub fn benchmark(kind: &str, size: usize) -> Model {
         "plant" => plant(size, &mut r),
         "chains" => chains(size, 200, &mut r),
         "links" => links(size, 200, &mut r),
-        "equal" => equal(size, &mut r),
+        "equal" => equal(size, false, &mut r),
         _ => panic!("no kind of model: {kind}"),
     }
 }
@@ -38,8 +41,14 @@ pub fn large(r: &mut Random) -> Model {
             let deep = r.between(2, 250);
             links(size, deep, r)
         }
-        6 => equal(size, r),
-        _ => mixture(r.between(50, 400), r),
+        6 => {
+            let inverse = r.percent(INVERSE);
+            equal(size, inverse, r)
+        }
+        _ => {
+            let (parts, inverse) = (r.between(50, 400), r.percent(INVERSE));
+            mixture(parts, inverse, r)
+        }
     };
     if r.percent(50) {
         rename_some(&mut made, r);
@@ -235,15 +244,18 @@ fn links(size: usize, deep: usize, r: &mut Random) -> Model {
 /// The most links of a functional property: the original pairs each with each.
 const MOST_PAIRED: usize = 300;
 
-/// Groups of equal terms, a functional and an inverse functional property.
-fn equal(size: usize, r: &mut Random) -> Model {
+/// Groups of equal terms, a functional property, things with numbers, some with one number; where asked for, two things with one
+/// number are one.
+fn equal(size: usize, inverse: bool, r: &mut Random) -> Model {
     let mut b = Builder::new(size);
     let properties = b.several(4);
     b.add(properties[0], "type", word("FunctionalProperty"));
-    let numbered = b.several(r.between(2, 12));
-    b.add(properties[1], "type", word("InverseFunctionalProperty"));
-    for pair in numbered.windows(2) {
-        b.link(pair[0], properties[1], pair[1]);
+    let (things, numbers) = (b.several(r.between(2, 12)), b.several(8));
+    if inverse {
+        b.add(properties[1], "type", word("InverseFunctionalProperty"));
+    }
+    for thing in things {
+        b.link(thing, properties[1], numbers[r.below(numbers.len())]);
     }
     while !b.full() {
         let group = b.several(if size > 5_000 { 1 + r.below(10) / 9 } else { r.between(1, 3) });

@@ -241,8 +241,8 @@ fn instance_over(template: &str, r: &mut Random, term: &mut dyn FnMut(&mut Rando
 }
 
 /// Premises of many rules, lists and checks over many terms: a large model without a plan. No node of it has two rdf:first,
-/// intersectionOf or unionOf objects in the load.
-pub(crate) fn mixture(parts: usize, r: &mut Random) -> Model {
+/// intersectionOf or unionOf objects in the load; inverse functional properties come up where asked for.
+pub(crate) fn mixture(parts: usize, inverse: bool, r: &mut Random) -> Model {
     let terms = names(r.between(2 * parts, 4 * parts));
     let single = ["first", "intersectionOf", "unionOf"].map(word);
     loop {
@@ -251,6 +251,9 @@ pub(crate) fn mixture(parts: usize, r: &mut Random) -> Model {
         for _ in 0..parts {
             let list = if r.percent(25) { LISTS } else { PREMISES };
             let template = r.pick(list);
+            if !inverse && template.contains("InverseFunctionalProperty") {
+                continue;
+            }
             let triples = instance_over(template, r, &mut |r| FIRST + r.below(terms.len()) as u32);
             load.extend(triples.iter().filter(|[s, p, _]| !single.contains(p) || taken.insert([*s, *p])));
         }

@@ -87,7 +87,13 @@ fn functional() {
 
 #[test]
 fn inverse_functional() {
-    assert!(run(&[[31, 1, 20], [32, 31, 33], [34, 31, 35]], 60, 0).answer.contains(&[32, 11, 34]));
+    let mut twelve = EMPTY.to_vec();
+    twelve.extend([[31, 1, 9], [31, 1, 20], [32, 1, 9], [32, 11, 32], [32, 31, 33], [34, 1, 9], [34, 11, 34], [34, 31, 35]]);
+    let different = [[31, 1, 20], [32, 31, 33], [34, 31, 35]];
+    assert_eq!(run(&different, 12, 0).answer, twelve);
+    assert_eq!(run(&different, 11, 0).refusal, STORE_FULL);
+    let one_object = run(&[[31, 1, 20], [32, 31, 33], [34, 31, 33]], 60, 0).answer;
+    assert!(one_object.contains(&[32, 11, 34]) && one_object.contains(&[34, 11, 32]));
 }
 
 #[test]

@@ -1,4 +1,5 @@
-//! compare N [SEED]: the original against the port, on N small and N / 100 large random models inside demand 2's domain.
+//! compare N [SEED]: the original against the port, on N small and N / 100 large random models inside demand 2's domain. Models
+//! outside it because they type a property inverse functional are compared with the reference model, beside the N.
 //!
 //! Compared are the triples, the findings as a set after each record is put into the original's message text, the counts, the
 //! number of terms, and the sizes at which store and findings just suffice. Exit status 1 where there is a difference.
@@ -6,26 +7,35 @@
 
 mod support;
 
-use generate::{large::large, small::small, Model, Random};
-use model::closure::in_domain;
-use model::{FINDINGS_LIMIT, STORE_LIMIT};
-use original::Closed as Reference;
+use generate::{large::large, small::small, Model, Random, FIRST};
+use model::closure::{check, close, names_inverse_functional, one_object_each, types_inverse_functional};
+use model::{Triple, FINDINGS_LIMIT, STORE_LIMIT};
+use original::{Closed as Reference, Original};
 use std::collections::BTreeSet;
 use std::panic::{catch_unwind, AssertUnwindSafe};
 use std::sync::Mutex;
 use std::time::{Duration, Instant};
 use tablestork::{Closed, Dictionary, Refusal};
 
+/// What decides: the original inside the domain, the reference model where a property is typed inverse functional.
+#[derive(Clone, Copy, PartialEq)]
+enum Measure {
+    Original,
+    Model,
+}
+
 enum Verdict {
     Outside,
-    Same { refused: bool },
-    Differs(String),
+    Same { by: Measure, refused: bool },
+    Differs { by: Measure, how: String },
 }
 
 #[derive(Default)]
 struct Tally {
     compared: u64,
     outside: u64,
+    /// Of those outside.
+    by_model: u64,
     refused: u64,
     differences: u64,
 }
@@ -57,12 +67,12 @@ fn compare(name: &str, n: u64, model: impl Fn(u64) -> Model + Sync, make: Make) 
         match verdict {
             Verdict::Outside => tally.outside += 1,
             _ if tally.compared >= n => {}
-            Verdict::Same { refused } => {
-                tally.compared += 1;
-                tally.refused += u64::from(refused);
+            Verdict::Same { by, refused } => {
+                tally.count(by);
+                tally.refused += u64::from(refused && by == Measure::Original);
             }
-            Verdict::Differs(how) => {
-                tally.compared += 1;
+            Verdict::Differs { by, how } => {
+                tally.count(by);
                 tally.differences += 1;
                 let before = tally.differences - 1;
                 drop(tally);
@@ -73,23 +83,65 @@ fn compare(name: &str, n: u64, model: impl Fn(u64) -> Model + Sync, make: Make) 
     });
     let t = tally.into_inner().expect("the tally");
     println!(
-        "{name}: {} compared, {} outside the domain, {} above a store's or findings' limit, {} differences",
-        t.compared, t.outside, t.refused, t.differences
+        "{name}: {} compared, {} outside the domain, {} of them with the reference model, {} above a store's or findings' limit, \
+         {} differences",
+        t.compared, t.outside, t.by_model, t.refused, t.differences
     );
     t.differences
 }
 
+impl Tally {
+    fn count(&mut self, by: Measure) {
+        match by {
+            Measure::Original => self.compared += 1,
+            Measure::Model => {
+                self.outside += 1;
+                self.by_model += 1;
+            }
+        }
+    }
+}
+
 fn judge(model: &Model, make: Make) -> Verdict {
-    let reference = original::close(&model.terms, &model.load);
+    let (by, reference) = match inverse_functional(model) {
+        // Where the model's closure types no property inverse functional, the original's does not either: their rules are the same then.
+        None => (Measure::Original, original::close(&model.terms, &model.load)),
+        Some(closure) => (Measure::Model, by_the_model(model, closure.as_deref())),
+    };
     // Where the Rust drops a list, a class or a member, the two objects that it chose from are in its own closure.
-    if !in_domain(&model.load, &reference.original.closure()) {
+    if by == Measure::Original && !one_object_each(&model.load, &reference.original.closure()) {
         return Verdict::Outside;
     }
     let refused = reference.closure > STORE_LIMIT || reference.messages.len() > FINDINGS_LIMIT;
     match catch_unwind(AssertUnwindSafe(|| same(model, &reference, make))) {
-        Ok(Ok(())) => Verdict::Same { refused },
-        Ok(Err(how)) => Verdict::Differs(how),
-        Err(_) => Verdict::Differs("a panic".to_string()),
+        Ok(Ok(())) => Verdict::Same { by, refused },
+        Ok(Err(how)) => Verdict::Differs { by, how },
+        Err(_) => Verdict::Differs { by, how: "a panic".to_string() },
+    }
+}
+
+/// The closure, where it types a property inverse functional; nothing within where it is larger than a store.
+fn inverse_functional(model: &Model) -> Option<Option<Vec<Triple>>> {
+    if !names_inverse_functional(&model.load) {
+        return None;
+    }
+    let closure = close(&model.start(), STORE_LIMIT, 0);
+    closure.as_ref().is_none_or(|c| types_inverse_functional(c)).then_some(closure)
+}
+
+/// What the reference model gives, in the form of the original's outcome; the original only keeps the terms, for message texts.
+fn by_the_model(model: &Model, closure: Option<&[Triple]>) -> Reference {
+    let mut original = Original::new();
+    for (kind, bytes) in &model.terms_of_a_run()[FIRST as usize..] {
+        original.put(*kind, bytes);
+    }
+    let rows = closure.unwrap_or_default();
+    Reference {
+        triples: rows.iter().copied().filter(|t| !t.contains(&0)).collect(),
+        messages: check(rows).into_iter().map(|f| original.message(f)).collect(),
+        closure: closure.map_or(STORE_LIMIT + 1, <[Triple]>::len),
+        took: Duration::ZERO,
+        original,
     }
 }
 
@@ -173,7 +225,7 @@ fn report(name: &str, k: u64, model: &Model, how: &str, before: u64, make: Make)
             let mut fewer = small.clone();
             fewer.load.drain(at..(at + part).min(small.load.len()));
             match judge(&fewer, make) {
-                Verdict::Differs(now) => (small, how) = (fewer, now),
+                Verdict::Differs { how: now, .. } => (small, how) = (fewer, now),
                 _ => at += part,
             }
         }

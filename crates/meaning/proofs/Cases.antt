@@ -11,4 +11,4 @@ use Rattle.meaning.specs.Cases.{AllHold, cases}
 pub starred : AllHold cases
 unfolding run closure start close round members representative findings without-zero count-of consequences gives rules checks insert
     insert-all
-starred = (refl, (refl, (refl, (refl, (refl, (refl, (refl, (refl, (refl, (refl, (refl, tt)))))))))))
+starred = (refl, (refl, (refl, (refl, (refl, (refl, (refl, (refl, (refl, (refl, (refl, (refl, tt))))))))))))

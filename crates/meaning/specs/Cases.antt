@@ -51,11 +51,15 @@ cases =
     ∷ triple 35 1 9 ∷ triple 35 11 35 ∷ []) ∷
     -- a store of 15 is refused
     model (triple 31 1 19 ∷ triple 32 31 33 ∷ triple 34 31 35 ∷ []) 15 0 store-full ∷
-    -- inverse functional: 32 11 34
-    model (triple 31 1 20 ∷ triple 32 31 33 ∷ triple 34 31 35 ∷ []) 65535 65535
+    -- inverse functional, different objects: twelve triples, 32 11 34 is none of them; a store of 12 suffices, so no zero triple either
+    model (triple 31 1 20 ∷ triple 32 31 33 ∷ triple 34 31 35 ∷ []) 12 0
     (accepted (triple 9 1 9 ∷ triple 9 1 30 ∷ triple 10 1 9 ∷ triple 10 1 30 ∷ triple 31 1 9 ∷ triple 31 1 20 ∷ triple 32 1 9
-    ∷ triple 32 11 32 ∷ triple 32 11 34 ∷ triple 32 31 33 ∷ triple 32 31 35 ∷ triple 34 1 9 ∷ triple 34 11 32
-    ∷ triple 34 11 34 ∷ triple 34 31 33 ∷ triple 34 31 35 ∷ []) [] 16 (0 ∷ 0 ∷ 0 ∷ 0 ∷ 0 ∷ [])) ∷
+    ∷ triple 32 11 32 ∷ triple 32 31 33 ∷ triple 34 1 9 ∷ triple 34 11 34 ∷ triple 34 31 35 ∷ []) [] 12 (0 ∷ 0 ∷ 0 ∷ 0 ∷ 0 ∷ [])) ∷
+    -- inverse functional, one object: 32 11 34 and 34 11 32
+    model (triple 31 1 20 ∷ triple 32 31 33 ∷ triple 34 31 33 ∷ []) 65535 65535
+    (accepted (triple 9 1 9 ∷ triple 9 1 30 ∷ triple 10 1 9 ∷ triple 10 1 30 ∷ triple 31 1 9 ∷ triple 31 1 20 ∷ triple 32 1 9
+    ∷ triple 32 11 32 ∷ triple 32 11 34 ∷ triple 32 31 33 ∷ triple 34 1 9 ∷ triple 34 11 32 ∷ triple 34 11 34
+    ∷ triple 34 31 33 ∷ []) [] 14 (0 ∷ 0 ∷ 0 ∷ 0 ∷ 0 ∷ [])) ∷
     -- disjoint classes: one finding
     model (triple 31 1 32 ∷ triple 31 1 33 ∷ triple 32 26 33 ∷ []) 65535 1
     (accepted (triple 9 1 9 ∷ triple 9 1 30 ∷ triple 10 1 9 ∷ triple 10 1 30 ∷ triple 31 1 9 ∷ triple 31 1 32 ∷ triple 31 1 33

@@ -42,6 +42,7 @@ fn answers() {
     print_output(b"0");
     print_output(b"5\n31 1 19\n32 31 33\n34 31 35\n");
     print_output(b"5\n31 1 20\n32 31 33\n34 31 35\n");
+    print_output(b"4\n31 1 20\n32 31 33\n34 31 33\n");
     print_output(b"3\n31 1 32\n31 1 33\n32 26 33\n");
     print_output(b"3\n31 1 15\n32 31 33\n33 31 32\n");
     print_output(b"4\n31 29 32\n33 31 34\n33 32 34\n");

@@ -89,6 +89,17 @@ const BATCHES: &[Batch] = &[
         whole: "31 1 9, 31 1 19, 32 1 9, 32 31 33, 33 1 9, 33 11 33, 34 1 9, 34 11 34, 35 1 9, 35 31 34",
         found: "",
     },
+    // 31 is inverse functional: 35 has the object of 32, so the two are equal; 33 has another.
+    Batch {
+        name: "batch, inverse functional property",
+        more: 0,
+        a: "31 1 20, 32 31 33",
+        first: "31 1 9, 31 1 20, 32 1 9, 32 11 32, 32 31 33",
+        b: "35 31 33, 33 31 34",
+        whole: "31 1 9, 31 1 20, 32 1 9, 32 11 32, 32 11 35, 32 31 33, 33 1 9, 33 11 33, 33 31 34, 35 1 9, 35 11 32, 35 11 35, \
+                35 31 33",
+        found: "",
+    },
     // 31 is the union of 37 and 39, 32 that of 38 and 39, and the cell of 39, 36, is the rest of both: so each member is a member of
     // both. B has a 37, and the blank node, 44, as a 38.
     Batch {

@@ -14,13 +14,16 @@ mod text;
 
 use text::Text;
 
+/// The bytes that program trial_replay has room for.
+const ROOM: usize = 560_000;
+
 fn main() {
     let Some(folder) = std::env::args().nth(1) else {
         eprintln!("record FOLDER");
         std::process::exit(2);
     };
     let (cases, listing) = recorded::table_cases();
-    let random = recorded::random_models();
+    let (random, inverse) = recorded::random_models().into_iter().partition::<Vec<_>, _>(|r| r.by_original);
     let mut text = Text::new();
     index::lists(&mut text);
     damage::lists(&mut text);
@@ -29,8 +32,10 @@ fn main() {
     let before = models::prepare(&mut text);
     models::models(&mut text, "models after the tables of OWL 2 Profiles", &cases, &before);
     models::models(&mut text, "random models", &random, &before);
+    models::models(&mut text, "random models, inverse functional, by the reference model", &inverse, &before);
     let (lines, printed) = text.done();
     println!("{} bytes", lines.len());
+    assert!(lines.len() <= ROOM, "the text does not fit");
     print!("{printed}");
     std::fs::create_dir_all(&folder).expect("a folder");
     for (name, contents) in [("stdin", lines), ("stdout", printed), ("cases.md", listing)] {

@@ -1,10 +1,11 @@
-//! The original's answers to a fixed list of models: cases after the tables of OWL 2 Profiles, and random ones.
+//! The answers to a fixed list of models: cases after the tables of OWL 2 Profiles, and random ones.
 //!
-//! Every answer is the original's; the reference model has to agree with it, and tells which rules a model needs.
+//! Every answer is the original's, and the reference model has to agree with it, but where the closure types a property inverse
+//! functional: there rule 10 is not the original's, and the answer is the reference model's. That model tells which rules a model needs.
 
 use crate::tables::{Case, Conclusion, CASES, NEAR};
 use generate::{names, small::small, word, Model, Random, FIRST};
-use model::closure::{check, close, in_domain};
+use model::closure::{check, close, one_object_each, types_inverse_functional};
 use model::dictionary::{is_container_property, run_terms, NAMED_NODE};
 use model::{Finding, Triple};
 use std::fmt::Write;
@@ -24,21 +25,32 @@ const QUOTA: usize = 12;
 const RDF: &str = "http://www.w3.org/1999/02/22-rdf-syntax-ns#";
 
 pub struct Recorded {
+    /// The answer is the original's; else it is the reference model's.
+    pub by_original: bool,
     pub model: Model,
     pub closure: Vec<Triple>,
     pub answer: Vec<Triple>,
     pub findings: Vec<Finding>,
 }
 
-/// The original's answer; the model's has to be the same.
+/// The reference model's answer; inside the domain the original's has to be the same.
 fn record(model: Model) -> Recorded {
-    let closed = original::close(&model.terms, &model.load);
-    let closure = closed.original.closure();
-    let findings: Vec<Finding> = closed.original.findings().into_iter().collect();
-    let ours = close(&model.start(), model::STORE_LIMIT, 0).expect("a small closure");
-    assert_eq!(closure, ours, "{}", model.text());
-    assert_eq!(findings, check(&ours).into_iter().collect::<Vec<_>>(), "{}", model.text());
-    Recorded { model, closure, answer: closed.triples, findings }
+    let recorded = by_the_model(model.clone(), 0);
+    if recorded.by_original {
+        let closed = original::close(&model.terms, &model.load);
+        assert_eq!(closed.original.closure(), recorded.closure, "{}", model.text());
+        assert_eq!(closed.triples, recorded.answer, "{}", model.text());
+        assert_eq!(closed.original.findings().into_iter().collect::<Vec<_>>(), recorded.findings, "{}", model.text());
+    }
+    recorded
+}
+
+/// What the reference model gives under all rules but those of `without`.
+fn by_the_model(model: Model, without: u32) -> Recorded {
+    let closure = close(&model.start(), model::STORE_LIMIT, without).expect("a small closure");
+    let answer = closure.iter().copied().filter(|t| !t.contains(&0)).collect();
+    let findings = check(&closure).into_iter().collect();
+    Recorded { by_original: !types_inverse_functional(&closure), model, closure, answer, findings }
 }
 
 /// The terms of a case: its variables urn:t1 and so on, then those of the rdf namespace, then a run's.
@@ -105,13 +117,14 @@ impl Terms {
 
 const HEAD: &str = "# Cases after the tables of OWL 2 Profiles, section 4.3
 
-The first models of the recording, in this order; made by harness/record, which checks each line against the original. 'Rule' is the
-number of docs/REFERENCE.md, 6.2, or 0 for a check or a part of the start. A letter is a term of its own, urn:t1 and so on in the order in
-which they first appear. 'Alone': without this rule the other rules do not give the conclusion. What eq-trans gives eq-rep-o gives too, and
-what cax-eqc1 and cax-eqc2 give scm-eqc1 and cax-sco do, so no model shows those alone.
+The first models of the recording, in this order; made by harness/record. 'Rule' is the number of docs/REFERENCE.md, 6.2, or 0 for a check
+or a part of the start. A letter is a term of its own, urn:t1 and so on in the order in which they first appear. 'Alone': without this rule
+the other rules do not give the conclusion. What eq-trans gives eq-rep-o gives too, and what cax-eqc1 and cax-eqc2 give scm-eqc1 and cax-sco
+do, so no model shows those alone. 'Answer' says whose answer was recorded: the original's, with which the reference model has to agree, or
+the reference model's, where the closure types a property inverse functional (docs/REFERENCE.md, 12.1).
 
-| Model | Name | Rule | Load | Conclusion | Holds | Alone |
-|---|---|---|---|---|---|---|
+| Model | Name | Rule | Load | Conclusion | Holds | Alone | Answer |
+|---|---|---|---|---|---|---|---|
 ";
 
 /// Each rule with all premises, and once without each of them; then the near misses.
@@ -124,7 +137,7 @@ pub fn table_cases() -> (Vec<Recorded>, String) {
         assert!(terms.holds(case, &whole), "{}: the conclusion is not there", case.name);
         let alone = case.rule > 0 && !holds_without(case, &terms, &whole.model);
         assert!(alone || [0, 8, 17].contains(&case.rule), "{}: another rule gives it too", case.name);
-        list(&mut listing, all.len(), case, &premises, true, alone);
+        list(&mut listing, all.len(), case, &premises, &whole, true, alone);
         all.push(whole);
         let mut missing = 0;
         for k in 0..premises.len() {
@@ -133,7 +146,7 @@ pub fn table_cases() -> (Vec<Recorded>, String) {
             let recorded = record(terms.model(&fewer));
             let holds = terms.holds(case, &recorded);
             missing += usize::from(!holds);
-            list(&mut listing, all.len(), case, &fewer, holds, false);
+            list(&mut listing, all.len(), case, &fewer, &recorded, holds, false);
             all.push(recorded);
         }
         assert!(missing > 0 || premises.is_empty(), "{}: no premise is needed", case.name);
@@ -143,7 +156,7 @@ pub fn table_cases() -> (Vec<Recorded>, String) {
         let premises: Vec<&str> = case.premises.split(", ").collect();
         let recorded = record(terms.model(&premises));
         assert!(!terms.holds(case, &recorded), "{}: the conclusion is there", case.name);
-        list(&mut listing, all.len(), case, &premises, false, false);
+        list(&mut listing, all.len(), case, &premises, &recorded, false, false);
         all.push(recorded);
     }
     (all, listing)
@@ -151,13 +164,10 @@ pub fn table_cases() -> (Vec<Recorded>, String) {
 
 /// Does the conclusion hold in the closure under all rules but the case's own?
 fn holds_without(case: &Case, terms: &Terms, model: &Model) -> bool {
-    let closure = close(&model.start(), model::STORE_LIMIT, 1 << case.rule).expect("a small closure");
-    let answer = closure.iter().copied().filter(|t| !t.contains(&0)).collect();
-    let findings = check(&closure).into_iter().collect();
-    terms.holds(case, &Recorded { model: model.clone(), closure, answer, findings })
+    terms.holds(case, &by_the_model(model.clone(), 1 << case.rule))
 }
 
-fn list(text: &mut String, at: usize, case: &Case, premises: &[&str], holds: bool, alone: bool) {
+fn list(text: &mut String, at: usize, case: &Case, premises: &[&str], recorded: &Recorded, holds: bool, alone: bool) {
     let conclusion = match case.conclusion {
         Conclusion::Triple(t) => t.to_string(),
         Conclusion::Finding(f) => format!("finding {f}"),
@@ -166,7 +176,8 @@ fn list(text: &mut String, at: usize, case: &Case, premises: &[&str], holds: boo
     let yes = |b: bool| if b { "yes" } else { "no" };
     let load = if premises.is_empty() { "empty".to_string() } else { premises.join(", ") };
     let alone = if alone { "yes" } else { "" };
-    writeln!(text, "| {} | {} | {} | {load} | {conclusion} | {} | {alone} |", at + 1, case.name, case.rule, yes(holds))
+    let by = if recorded.by_original { "original" } else { "model" };
+    writeln!(text, "| {} | {} | {} | {load} | {conclusion} | {} | {alone} | {by} |", at + 1, case.name, case.rule, yes(holds))
         .expect("a string");
 }
 
@@ -192,7 +203,7 @@ fn things(model: &Model, closure: &[Triple]) -> Vec<usize> {
     things
 }
 
-/// Random models inside the domain: first those that bring up something still wanted, then any.
+/// Random models inside the domain or with an inverse functional property: first those that bring up something still wanted, then any.
 pub fn random_models() -> Vec<Recorded> {
     let (mut counts, mut all) = ([0; THINGS], Vec::<Recorded>::new());
     // Rules 8 and 17 never show (see cases.md).
@@ -205,7 +216,7 @@ pub fn random_models() -> Vec<Recorded> {
         let model = plain_terms_first(small(&mut Random::item(3, k)));
         let Some(closure) = close(&model.start(), MOST_CLOSED, 0) else { continue };
         let fits = model.load.len() <= MOST_LOAD && check(&closure).len() <= MOST_FOUND;
-        if !fits || !in_domain(&model.load, &closure) {
+        if !fits || !one_object_each(&model.load, &closure) {
             continue;
         }
         let mut brought = things(&model, &closure);

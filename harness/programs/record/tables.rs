@@ -38,7 +38,7 @@ pub const CASES: &[Case] = &[
     case("prp-fp", 9, "p type FunctionalProperty, x p y, x p z", Triple("y sameAs z")),
     case("prp-fp, else zero", 9, "p type FunctionalProperty, x p y, z p w", Zero),
     case("prp-ifp", 10, "p type InverseFunctionalProperty, x p y, z p y", Triple("x sameAs z")),
-    case("prp-ifp as coded", 10, "p type InverseFunctionalProperty, x p y, z p w", Triple("x sameAs z")),
+    case("prp-ifp, one statement", 10, "p type InverseFunctionalProperty, x p y", Triple("x sameAs x")),
     case("prp-irp", 0, "p type IrreflexiveProperty, x p x", Finding("2 p x")),
     case("prp-symp", 18, "p type SymmetricProperty, x p y", Triple("y p x")),
     case("prp-asyp", 0, "p type AsymmetricProperty, x p y, y p x", Finding("3 p x y")),
@@ -107,4 +107,6 @@ pub const NEAR: &[Case] = &[
     case("scm-eqc2", 0, "c subClassOf d, d subClassOf c", Triple("c equivalentClass d")),
     case("scm-spo", 0, "p subPropertyOf q, q subPropertyOf r", Triple("p subPropertyOf r")),
     case("eq-ref", 0, "s p o", Triple("s sameAs s")),
+    case("prp-ifp, different objects", 0, "p type InverseFunctionalProperty, x p y, z p w", Triple("x sameAs z")),
+    case("prp-ifp, no else zero", 0, "p type InverseFunctionalProperty, x p y, z p w", Zero),
 ];
