@@ -3,6 +3,7 @@
 
 use crate::{names, word, Model, Random, FIRST};
 use model::dictionary::{run_terms, Term, BLANK_NODE, LITERAL, NAMED_NODE};
+use model::names::NAMES;
 use model::Triple;
 use std::collections::HashSet;
 
@@ -164,15 +165,13 @@ fn try_small(r: &mut Random) -> Model {
 
 /// Mostly urn:tK; also container properties and what is nearly one, blank nodes, literals, and the terms that a run puts.
 fn some_terms(r: &mut Random) -> Vec<Term> {
-    const LOCAL: &[&str] =
-        &["_1", "_2", "_01", "_18446744073709551615", "_18446744073709551616", "_0", "_", "_1x", "_007", "_00"];
     let mut terms = names(r.between(1, MOST_TERMS));
     if r.percent(75) {
         return terms;
     }
     for k in 0..terms.len() {
         let term = match r.below(12) {
-            0..=3 => (NAMED_NODE, format!("http://www.w3.org/1999/02/22-rdf-syntax-ns#{}", r.pick(LOCAL)).into_bytes()),
+            0..=3 => (NAMED_NODE, format!("http://www.w3.org/1999/02/22-rdf-syntax-ns#{}", local_name(r)).into_bytes()),
             4 => (BLANK_NODE, format!("b{k}").into_bytes()),
             5 => (LITERAL, format!("l{k}").into_bytes()),
             6 => r.pick(&run_terms()),
@@ -183,6 +182,24 @@ fn some_terms(r: &mut Random) -> Vec<Term> {
         }
     }
     terms
+}
+
+/// A name of docs/REFERENCE.md, 11.2, or `_` and the largest number with a digit changed, taken off or added, after some zeros.
+fn local_name(r: &mut Random) -> String {
+    if r.percent(60) {
+        return r.pick(NAMES).0.to_string();
+    }
+    let mut digits = String::from("18446744073709551615");
+    let digit = r.below(10).to_string();
+    let place = r.below(20);
+    match r.below(8) {
+        0 => _ = digits.pop(),
+        1 => digits += &digit,
+        2 => digits.insert(place, 'a'),
+        3 => (),
+        _ => digits.replace_range(place..=place, &digit),
+    }
+    format!("_{}{digits}", r.pick(&["", "", "0", "000"]))
 }
 
 /// A term of the model, the first few more often; sometimes one of the vocabulary.

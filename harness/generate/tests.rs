@@ -4,7 +4,7 @@ use crate::large::{benchmark, large, KINDS};
 use crate::small::small;
 use crate::{Random, FIRST};
 use model::closure::{check, close, in_domain, one_object_each};
-use model::dictionary::is_container_property;
+use model::dictionary::{is_container_property, Term};
 use model::{LOAD_LIMIT, STORE_LIMIT};
 
 const MODELS: u64 = 1_500;
@@ -15,6 +15,8 @@ const PRP_IFP: usize = 10;
 #[test]
 fn small_models_bring_up_all_rules_and_checks() {
     let (mut rules, mut checks, mut containers, mut inside) = ([0; 29], [0; 6], 0, 0);
+    // Predicates of twenty digits after leading zeros: not container properties, and container properties.
+    let mut twenty = [0; 2];
     for k in 0..MODELS {
         let model = small(&mut Random::item(5, k));
         let start = model.start();
@@ -38,8 +40,9 @@ fn small_models_bring_up_all_rules_and_checks() {
         for [check, ..] in check(&closure) {
             checks[check as usize] += 1;
         }
-        containers +=
-            u32::from(model.load.iter().any(|t| t[1] >= FIRST && is_container_property(&model.terms[(t[1] - FIRST) as usize])));
+        let predicates = model.load.iter().filter(|t| t[1] >= FIRST).map(|t| &model.terms[(t[1] - FIRST) as usize]);
+        containers += u32::from(predicates.clone().any(is_container_property));
+        predicates.filter(|p| has_twenty_digits(p)).for_each(|p| twenty[usize::from(is_container_property(p))] += 1);
     }
     println!("of {inside} models, by the rule whose absence shows (0: zero triples): {rules:?}");
     println!("findings by check: {checks:?}, models with a container property: {containers}");
@@ -48,7 +51,15 @@ fn small_models_bring_up_all_rules_and_checks() {
     let shows = |rule: usize| rule != 8 && rule != 17;
     assert!((0..29).all(|k| rules[k] >= 10 || !shows(k)), "{rules:?}");
     assert!(checks[1..].iter().all(|n| *n >= 10), "{checks:?}");
+    println!("predicates of twenty digits, others' and container properties: {twenty:?}");
     assert!(containers >= 50);
+    assert!(twenty.iter().all(|n| *n >= 20), "{twenty:?}");
+}
+
+fn has_twenty_digits((_, bytes): &Term) -> bool {
+    let local = String::from_utf8_lossy(bytes).into_owned();
+    let digits = local.rsplit("#_").next().unwrap_or_default().trim_start_matches('0');
+    digits.len() == 20 && digits.bytes().all(|b| b.is_ascii_digit())
 }
 
 #[test]

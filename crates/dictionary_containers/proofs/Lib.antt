@@ -1,2 +1,4 @@
+pub mod ByDigits
+pub mod DigitLoops
 pub mod ContainerTerms
 pub mod Cases

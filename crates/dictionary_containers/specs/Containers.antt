@@ -20,7 +20,7 @@ starts-with [] bs = true
 starts-with (a ∷ r) [] = false
 starts-with (a ∷ r) (b ∷ bs) = if (eqb a b) (λ _. starts-with r bs) (λ _. false)
 
--- digits of a value in range; none have the value 0, which is not
+-- digits of a value in range; none have the value 0, which is not. ByDigits has the same test by cases on the digits
 unfoldable pub is-number : List ℕ → Bool
 is-number bs = all-digits bs && (leb 1 (value 0 bs) && leb (value 0 bs) 18446744073709551615)
 

@@ -1,2 +1,3 @@
 pub mod Containers
+pub mod ByDigits
 pub mod Cases

@@ -4,8 +4,12 @@ use dictionary_index::locate;
 use dictionary_layout::Counters;
 use dictionary_layout::bytes::same_bytes;
 ghost use mathlib.Core.Path.{_≡_};
+ghost use Prim.Native.Nat.{_≤_};
 ghost use lib.Dec.{T};
-ghost use Rattle.dictionary_containers.specs.Containers.{starts-with, is-number, is-container-term, is-container};
+ghost use lib.ListN.{length, drop};
+ghost use Rattle.common.specs.Digits.{all-digits};
+ghost use Rattle.dictionary_containers.specs.Containers.{starts-with, is-container-term, is-container};
+ghost use Rattle.dictionary_containers.specs.ByDigits.{after-zeros, not-above, largest, in-range, is-number-by-digits};
 ghost use Rattle.dictionary_layout.specs.Layout.{decode};
 ghost use Rattle.dictionary_layout.specs.Dictionary.{valid};
 ghost use Rattle.dictionary_layout.specs.Values.{contents};
@@ -21,31 +25,85 @@ fn begins_with(bytes: &[u8], prefix: &[u8]) -> bool
     same_bytes(prefix, &bytes[..n])
 }
 
-// Whether the bytes are digits, of a value from 1 to the greatest of 64 bits.
-fn is_number(digits: &[u8]) -> bool
-    ensures { λ r. ⌜ r ≡ is-number (now (digits .entry)) ⌝ }
+// Whether all bytes are ASCII digits.
+fn all_digits(bytes: &[u8]) -> bool
+    ensures { λ r. ⌜ r ≡ all-digits (now (bytes .entry)) ⌝ }
 {
-    let mut value: u64 = 0;
     let mut i = 0;
-    while i < digits.len() {
-        let b = digits[i];
+    while i < bytes.len() {
+        let b = bytes[i];
         if b < 48 {
             return false;
         }
         if 57 < b {
             return false;
         }
-        let digit = (b - 48) as u64;
-        if 1844674407370955161 < value {
-            return false;
-        }
-        if 18446744073709551615 - digit < 10 * value {
-            return false;
-        }
-        value = 10 * value + digit;
         i += 1;
     }
-    0 < value
+    true
+}
+
+// How many zeros lead.
+fn leading_zeros(digits: &[u8]) -> usize
+    ensures { λ r. ⌜ (r ≤ length (now (digits .entry))) × (drop r (now (digits .entry)) ≡ after-zeros (now (digits .entry))) ⌝ }
+{
+    let mut i = 0;
+    while i < digits.len() {
+        if digits[i] != 48 {
+            return i;
+        }
+        i += 1;
+    }
+    i
+}
+
+// Twenty digits, compared digit by digit with the largest number's: whether the first one that differs is smaller, or none differs.
+fn not_above_largest(digits: &[u8]) -> bool
+    requires { ⌜ length (now digits) ≡ 20 ⌝ }
+    ensures { λ r. ⌜ r ≡ not-above (now (digits .entry)) largest ⌝ }
+{
+    let largest = b"18446744073709551615";
+    let mut i = 0;
+    while i < 20 {
+        let digit = digits[i];
+        let bound = largest[i];
+        if digit < bound {
+            return true;
+        }
+        if bound < digit {
+            return false;
+        }
+        i += 1;
+    }
+    true
+}
+
+// The cases, by how many digits are left after leading zeros.
+fn in_range(digits: &[u8]) -> bool
+    ensures { λ r. ⌜ r ≡ in-range (now (digits .entry)) ⌝ }
+{
+    let count = digits.len();
+    if count < 1 {
+        return false;
+    }
+    if 20 < count {
+        return false;
+    }
+    if count < 20 {
+        return true;
+    }
+    not_above_largest(digits)
+}
+
+// Whether the bytes are a container property's number: digits, and after leading zeros one of the cases that pass.
+fn is_number(bytes: &[u8]) -> bool
+    ensures { λ r. ⌜ r ≡ is-number-by-digits (now (bytes .entry)) ⌝ }
+{
+    if all_digits(bytes) {
+        let zeros = leading_zeros(bytes);
+        return in_range(&bytes[zeros..]);
+    }
+    false
 }
 
 // Whether a term is a container property.

@@ -7,6 +7,7 @@ use crate::tables::{Case, Conclusion, CASES, NEAR};
 use generate::{names, small::small, word, Model, Random, FIRST};
 use model::closure::{check, close, one_object_each, types_inverse_functional};
 use model::dictionary::{is_container_property, run_terms, NAMED_NODE};
+use model::names::NAMES;
 use model::{Finding, Triple};
 use std::fmt::Write;
 
@@ -17,6 +18,7 @@ pub const PLAIN: usize = 16;
 const MOST_LOAD: usize = 20;
 const MOST_CLOSED: usize = 200;
 const MOST_FOUND: usize = 60;
+const MOST_BYTES: usize = 70;
 
 /// Random models, and of each thing to come up at least so many.
 const RANDOM: usize = 340;
@@ -121,7 +123,8 @@ The first models of the recording, in this order; made by harness/record. 'Rule'
 or a part of the start. A letter is a term of its own, urn:t1 and so on in the order in which they first appear. 'Alone': without this rule
 the other rules do not give the conclusion. What eq-trans gives eq-rep-o gives too, and what cax-eqc1 and cax-eqc2 give scm-eqc1 and cax-sco
 do, so no model shows those alone. 'Answer' says whose answer was recorded: the original's, with which the reference model has to agree, or
-the reference model's, where the closure types a property inverse functional (docs/REFERENCE.md, 12.1).
+the reference model's, where the closure types a property inverse functional (docs/REFERENCE.md, 12.1). The names of docs/REFERENCE.md,
+11.2, come last, eight to a model: a row for each has the one triple of that model's load that it is in.
 
 | Model | Name | Rule | Load | Conclusion | Holds | Alone | Answer |
 |---|---|---|---|---|---|---|---|
@@ -159,7 +162,27 @@ pub fn table_cases() -> (Vec<Recorded>, String) {
         list(&mut listing, all.len(), case, &premises, &recorded, false, false);
         all.push(recorded);
     }
+    names_as_predicates(&mut all, &mut listing);
     (all, listing)
+}
+
+/// The names of docs/REFERENCE.md, 11.2, eight to a model, each the predicate of a triple with an object of its own: x member that object
+/// follows where the name is a container property's, and else does not.
+fn names_as_predicates(all: &mut Vec<Recorded>, listing: &mut String) {
+    for names in NAMES.chunks(8) {
+        let objects: Vec<String> = ('a'..).take(names.len()).map(String::from).collect();
+        let mut terms = Terms { variables: vec!["x".to_string()], further: Vec::new() };
+        terms.variables.extend(objects.iter().cloned());
+        terms.further.extend(names.iter().map(|(local, _)| local.to_string()));
+        let premises: Vec<String> = names.iter().zip(&objects).map(|((local, _), o)| format!("x {local} {o}")).collect();
+        let recorded = record(terms.model(&premises.iter().map(String::as_str).collect::<Vec<_>>()));
+        for (((local, container), o), premise) in names.iter().zip(&objects).zip(&premises) {
+            let (name, conclusion) = (format!("rdf:{local}"), format!("x member {o}"));
+            assert_eq!(recorded.answer.contains(&terms.triple(&conclusion)), *container, "{name}");
+            row(listing, all.len(), (&name, 0), premise, &conclusion, &recorded, [*container, false]);
+        }
+        all.push(recorded);
+    }
 }
 
 /// Does the conclusion hold in the closure under all rules but the case's own?
@@ -173,12 +196,15 @@ fn list(text: &mut String, at: usize, case: &Case, premises: &[&str], recorded: 
         Conclusion::Finding(f) => format!("finding {f}"),
         Conclusion::Zero => "0 0 0 in the closure".to_string(),
     };
-    let yes = |b: bool| if b { "yes" } else { "no" };
     let load = if premises.is_empty() { "empty".to_string() } else { premises.join(", ") };
+    row(text, at, (case.name, case.rule), &load, &conclusion, recorded, [holds, alone]);
+}
+
+fn row(text: &mut String, at: usize, of: (&str, u32), load: &str, gives: &str, r: &Recorded, [holds, alone]: [bool; 2]) {
+    let holds = if holds { "yes" } else { "no" };
     let alone = if alone { "yes" } else { "" };
-    let by = if recorded.by_original { "original" } else { "model" };
-    writeln!(text, "| {} | {} | {} | {load} | {conclusion} | {} | {alone} | {by} |", at + 1, case.name, case.rule, yes(holds))
-        .expect("a string");
+    let by = if r.by_original { "original" } else { "model" };
+    writeln!(text, "| {} | {} | {} | {load} | {gives} | {holds} | {alone} | {by} |", at + 1, of.0, of.1).expect("a string");
 }
 
 /// What is counted: the rules whose absence shows in the answer, zero triples that carry a real one (0), each check, container
@@ -215,7 +241,8 @@ pub fn random_models() -> Vec<Recorded> {
         }
         let model = plain_terms_first(small(&mut Random::item(3, k)));
         let Some(closure) = close(&model.start(), MOST_CLOSED, 0) else { continue };
-        let fits = model.load.len() <= MOST_LOAD && check(&closure).len() <= MOST_FOUND;
+        let short = model.terms.iter().all(|(_, bytes)| bytes.len() <= MOST_BYTES);
+        let fits = short && model.load.len() <= MOST_LOAD && check(&closure).len() <= MOST_FOUND;
         if !fits || !one_object_each(&model.load, &closure) {
             continue;
         }

@@ -1,8 +1,10 @@
 -- `dictionary_containers::is_container_term` meets its contract. Assumes nothing.
 use mathlib.Core.Path.{sym, _∙_, ap}
 use borrow.Author.Needs.{needs}
-use Rattle.dictionary_containers.specs.Containers.{is-number}
+use lib.ListN.{drop}
+use Rattle.dictionary_containers.specs.ByDigits.{is-number-by-digits}
 use Rattle.dictionary_layout.proofs.Rows.{rest-part}
+use Rattle.dictionary_containers.proofs.ByDigits.{digits-are-value}
 use Rattle.dictionary_containers.proofs.ContainerTerms.{container-kind, container-other, container-number, container-long}
 use Rattle.dictionary_containers.proofs.is_container_term.Statement.{statement}
 use Rattle.dictionary_containers.proofs.is_container_term.Tie as tie
@@ -40,10 +42,11 @@ returns-2 c =
     let after-begins-with = at-if2 .before in
     let at-if1 = after-begins-with .before .before in
     let at-start = at-if1 .before .before in
+    let bytes = at-start .args .bytes .now in
+    let begins = sym (at-if2 .if2 .taken) ∙ after-begins-with .begins-with .ensures in
     c .is-number .ensures
-    ∙ (ap is-number (rest-part 44 (at-start .args .bytes .now))
-    ∙ container-number (at-start .args .kind) (at-start .args .bytes .now) (at-if1 .if1 .left)
-    (sym (at-if2 .if2 .taken) ∙ after-begins-with .begins-with .ensures))
+    ∙ (ap is-number-by-digits (rest-part 44 bytes)
+    ∙ (digits-are-value (drop 44 bytes) ∙ container-number (at-start .args .kind) bytes (at-if1 .if1 .left) begins))
 
 returns-3 : tie.Need-returns-3
 returns-3 c =
