@@ -4,8 +4,11 @@
 //!   rule K      rule K is left out                 zero        triples with an id 0 are dropped early
 //!   check K     check K reports nothing            dirty       store and findings are not cleared after a refusal 8 or 9
 //!   refusal K   number K is answered as K + 1      counter     a put counts a byte too many
+//!   list NAME   lists are read as model::mistakes has it by that name
 
 use model::bytes::{self, Lent};
+use model::lists::{members, Reading};
+use model::mistakes::READINGS;
 use std::slice::{from_raw_parts, from_raw_parts_mut};
 use std::sync::OnceLock;
 
@@ -16,6 +19,7 @@ struct Fault {
     refusal: u32,
     dirty: bool,
     counter: bool,
+    reading: Option<Reading>,
 }
 
 fn fault() -> &'static Fault {
@@ -31,9 +35,14 @@ fn fault() -> &'static Fault {
             "refusal" => Fault { refusal: number(), ..Fault::default() },
             "dirty" => Fault { dirty: true, ..Fault::default() },
             "counter" => Fault { counter: true, ..Fault::default() },
+            "list" => Fault { reading: Some(reading(text.split(' ').nth(1).unwrap_or(""))), ..Fault::default() },
             _ => panic!("no fault {text}"),
         }
     })
+}
+
+fn reading(name: &str) -> Reading {
+    READINGS.iter().find(|(n, _)| *n == name).unwrap_or_else(|| panic!("no reading {name}")).1
 }
 
 fn answered(refusal: u32) -> u32 {
@@ -138,7 +147,7 @@ pub unsafe extern "C" fn tablestork_run(
     };
     let before = fault().dirty.then(|| lent.store.to_vec());
     let refusal;
-    (refusal, *triples, *counts) = bytes::run_without(lent, fault().without);
+    (refusal, *triples, *counts) = bytes::run_mistaken(lent, fault().without, fault().reading.unwrap_or(members));
     if let (Some(before), 8..) = (before, refusal) {
         from_raw_parts_mut(store, store_len).copy_from_slice(&before);
     }

@@ -1,7 +1,8 @@
-//! Large models, to 16,384 triples: plants, deep class chains, transitive links, equal terms, and mixtures of small ones.
+//! Large models, to 16,384 triples: plants, deep class chains, transitive links, equal terms, recipes, and mixtures of small ones.
 //! A closure should stay within the 65,535 triples of a store; each kind keeps count of what it will bring.
 
-use crate::small::mixture;
+use crate::recipes::{recipes, Cells};
+use crate::small::{mixture, Outside};
 use crate::{names, word, Model, Random, FIRST};
 use model::dictionary::{BLANK_NODE, LITERAL, NAMED_NODE};
 use model::{Triple, LOAD_LIMIT};
@@ -13,7 +14,11 @@ const BUDGET: usize = 56_000;
 /// Of equal terms and mixtures so many in a hundred type properties inverse functional, and are outside the original's domain.
 const INVERSE: usize = 25;
 
-pub const KINDS: [&str; 4] = ["plant", "chains", "links", "equal"];
+/// Of mixtures and recipes so many in a hundred have lists that share cells, and improper ones: they are outside too.
+const ODD_LISTS: usize = 40;
+
+/// Of `tails` the original's answers are others than the port's: it pools the members of lists that share cells.
+pub const KINDS: [&str; 6] = ["plant", "chains", "links", "equal", "recipes", "tails"];
 
 /// A benchmark model of a kind, with exactly this many triples.
 pub fn benchmark(kind: &str, size: usize) -> Model {
@@ -23,6 +28,8 @@ pub fn benchmark(kind: &str, size: usize) -> Model {
         "chains" => chains(size, 200, &mut r),
         "links" => links(size, 200, &mut r),
         "equal" => equal(size, false, &mut r),
+        "recipes" => recipes(size, Cells::Own, &mut r),
+        "tails" => recipes(size, Cells::Tails, &mut r),
         _ => panic!("no kind of model: {kind}"),
     }
 }
@@ -31,7 +38,7 @@ pub fn benchmark(kind: &str, size: usize) -> Model {
 pub fn large(r: &mut Random) -> Model {
     let size = if r.percent(12) { LOAD_LIMIT } else { 200 << r.below(7) };
     let size = if size == LOAD_LIMIT { size } else { r.between(size, (2 * size).min(LOAD_LIMIT)) };
-    let mut made = match r.below(9) {
+    let mut made = match r.below(11) {
         0..=3 => plant(size, r),
         4 => {
             let deep = r.between(2, 250);
@@ -45,9 +52,13 @@ pub fn large(r: &mut Random) -> Model {
             let inverse = r.percent(INVERSE);
             equal(size, inverse, r)
         }
+        7..=8 => {
+            let cells = if r.percent(ODD_LISTS) { Cells::Odd } else { Cells::Own };
+            recipes(size, cells, r)
+        }
         _ => {
-            let (parts, inverse) = (r.between(50, 400), r.percent(INVERSE));
-            mixture(parts, inverse, r)
+            let (parts, inverse_functional, odd_lists) = (r.between(50, 400), r.percent(INVERSE), r.percent(ODD_LISTS));
+            mixture(parts, Outside { inverse_functional, odd_lists }, r)
         }
     };
     if r.percent(50) {
@@ -69,8 +80,8 @@ fn rename_some(made: &mut Model, r: &mut Random) {
     }
 }
 
-/// A load in the making: no triple twice, and never more than asked for.
-struct Builder {
+/// A load in the making: no triple twice unless asked for, and never more than asked for.
+pub(crate) struct Builder {
     size: usize,
     terms: u32,
     load: Vec<Triple>,
@@ -78,45 +89,70 @@ struct Builder {
 }
 
 impl Builder {
-    fn new(size: usize) -> Builder {
+    pub fn new(size: usize) -> Builder {
         Builder { size, terms: 0, load: Vec::new(), held: HashSet::new() }
     }
 
-    fn fresh(&mut self) -> u32 {
+    pub fn fresh(&mut self) -> u32 {
         self.terms += 1;
         FIRST + self.terms - 1
     }
 
-    fn several(&mut self, n: usize) -> Vec<u32> {
+    pub fn several(&mut self, n: usize) -> Vec<u32> {
         (0..n).map(|_| self.fresh()).collect()
     }
 
-    fn add(&mut self, s: u32, p: &str, o: u32) {
+    pub fn add(&mut self, s: u32, p: &str, o: u32) {
         self.link(s, word(p), o);
     }
 
-    fn link(&mut self, s: u32, p: u32, o: u32) {
+    pub fn link(&mut self, s: u32, p: u32, o: u32) {
         if !self.full() && self.held.insert([s, p, o]) {
             self.load.push([s, p, o]);
         }
     }
 
-    fn full(&self) -> bool {
-        self.load.len() == self.size
+    pub fn full(&self) -> bool {
+        self.room() == 0
+    }
+
+    /// The triples that are left.
+    pub fn room(&self) -> usize {
+        self.size - self.load.len()
+    }
+
+    /// Takes a triple out, where it is there.
+    pub fn take_out(&mut self, s: u32, p: &str, o: u32) {
+        let triple = [s, word(p), o];
+        if self.held.remove(&triple) {
+            self.load.retain(|t| *t != triple);
+        }
+    }
+
+    /// Puts a triple in once more.
+    pub fn repeat(&mut self, s: u32, p: &str, o: u32) {
+        if !self.full() && self.held.contains(&[s, word(p), o]) {
+            self.load.push([s, word(p), o]);
+        }
+    }
+
+    /// Cells for these members, before `tail`, which is nil or a cell of another list.
+    pub fn cells(&mut self, members: &[u32], tail: u32) -> Vec<u32> {
+        let cells = self.several(members.len());
+        for (k, m) in members.iter().enumerate() {
+            let rest = cells.get(k + 1).copied().unwrap_or(tail);
+            self.add(cells[k], "first", *m);
+            self.add(cells[k], "rest", rest);
+        }
+        cells
     }
 
     /// An RDF list; answers its first cell.
     fn list(&mut self, members: &[u32]) -> u32 {
-        let cells = self.several(members.len());
-        for (k, m) in members.iter().enumerate() {
-            let rest = cells.get(k + 1).copied().unwrap_or(word("nil"));
-            self.add(cells[k], "first", *m);
-            self.add(cells[k], "rest", rest);
-        }
-        cells[0]
+        self.cells(members, word("nil"))[0]
     }
 
-    fn model(self) -> Model {
+    pub fn model(self) -> Model {
         assert_eq!(self.load.len(), self.size);
         Model { terms: names(self.terms as usize), load: self.load }
     }

@@ -2,6 +2,7 @@
 
 pub mod large;
 pub mod random;
+mod recipes;
 pub mod small;
 #[cfg(test)]
 mod tests;

@@ -1,11 +1,12 @@
 //! Small random models: at most 12 terms and 18 triples, weighted to the vocabulary so that all rules, all checks, container
-//! properties, lists with shared tails, and zero triples that carry a real triple come up.
+//! properties, proper and improper lists, lists with shared tails, and zero triples that carry a real triple come up.
 
 use crate::{names, word, Model, Random, FIRST};
 use model::dictionary::{run_terms, Term, BLANK_NODE, LITERAL, NAMED_NODE};
 use model::names::NAMES;
 use model::Triple;
-use std::collections::HashSet;
+use std::collections::{HashMap, HashSet};
+use std::ops::RangeInclusive;
 
 const MOST_TERMS: usize = 12;
 const MOST_TRIPLES: usize = 18;
@@ -52,21 +53,74 @@ const PREMISES: &[&str] = &[
     "x type Nothing",
 ];
 
-/// Lists: of one cell, of two, with a shared tail, without nil, named at a later cell, in a ring, with nil as a cell.
+/// The variables that only templates of lists have: cells, nodes in the place of a cell, and properties above list predicates.
+const OWN: RangeInclusive<char> = 'k'..='o';
+
+/// Proper lists, named at their first cell: of one cell, of two, of three, with a member or a triple twice, named in the closure alone,
+/// and a node that names no list.
 const LISTS: &[&str] = &[
     "c intersectionOf l, l first d, l rest nil, x type d",
     "c intersectionOf l, l first d, l rest m, m first e, m rest nil, x type d, x type e",
     "c intersectionOf l, l first d, l rest m, m first e, m rest nil, x type c",
+    "c intersectionOf l, l first d, l rest m, m first e, m rest n, n first f, n rest nil, x type d, x type e, x type f",
+    "c intersectionOf l, l first d, l rest m, m first e, m rest n, n first f, n rest nil, x type c",
+    "c intersectionOf l, l first d, l rest m, m first d, m rest nil, x type d",
+    "c intersectionOf l, l first d, l first d, l rest m, m first e, m rest nil, x type c",
     "c unionOf l, l first d, l rest nil, x type d",
     "c unionOf l, l first d, l rest m, m first e, m rest nil, x type e",
+    "c unionOf l, l first d, l rest m, m first e, m rest n, n first f, n rest nil, x type d, y type f",
+    "c unionOf l, l first d, l rest m, l rest m, m first e, m rest nil, m rest nil, x type d",
+    "c unionOf l, b unionOf n, l first d, l rest m, m first e, m rest nil, n first e, n rest nil, x type e, y type d",
+    "o subPropertyOf unionOf, c o l, l first d, l rest m, m first e, m rest nil, x type e",
+    "o subPropertyOf intersectionOf, c o l, l first d, l rest nil, x type c",
+    "c intersectionOf k, x type c, x type k",
+];
+
+/// Lists that the original reads otherwise, or may: with shared tails, named at a later cell; with two rdf:first or rdf:rest objects or
+/// none, at the first cell and behind it; in a ring; with list triples of nil; with list triples in the closure alone.
+const ODD_LISTS: &[&str] = &[
     "c intersectionOf l, l first d, l rest m, k first e, k rest m, m first f, m rest nil, x type c",
+    "c intersectionOf l, b intersectionOf k, l first d, l rest m, k first e, k rest m, m first f, m rest nil, x type d, x type f",
     "c unionOf l, l first d, l rest m, k first e, k rest m, m first f, m rest nil, x type e",
+    "c unionOf l, b unionOf k, l first d, l rest m, k first e, k rest m, m first f, m rest nil, x type e, y type f",
+    "c unionOf l, b unionOf k, l first d, l rest m, k first e, k rest m, m first f, m rest n, n first d, n rest nil, x type d",
+    "c unionOf l, l first d, l rest m, k rest m, m first e, m rest nil, x type d, y type e",
+    "c intersectionOf l, b unionOf k, l first d, l rest m, k first d, k rest m, m first e, m rest nil, x type c, y type e",
+    "c unionOf l, b intersectionOf m, l first d, l rest m, m first e, m rest nil, x type e, y type b",
     "c intersectionOf m, l first d, l rest m, m first e, m rest nil, x type c",
-    "c unionOf l, l first d, k first e, k rest l, x type e",
-    "c intersectionOf l, l first d, l rest m, m first e, m rest l, x type d, x type e",
-    "c unionOf nil, nil first d, l rest nil, l first e, x type d, x type e",
-    "c intersectionOf l, l rest nil, nil rest m, m first e, x type e",
+    "c intersectionOf m, l first d, l rest m, m first e, m rest nil, x type e",
+    "c unionOf m, l first d, l rest m, m first e, m rest nil, x type d, y type e",
+    "c unionOf l, l first d, l first e, l rest nil, x type d",
+    "c intersectionOf l, l first d, l rest m, m first e, m first f, m rest nil, x type c",
+    "c unionOf l, l first d, l rest m, l rest nil, m first e, m rest nil, x type d",
+    "c unionOf l, l first d, l rest m, l rest nil, m first d, m rest nil, x type d",
+    "c unionOf l, l first d, l rest m, l rest n, m first e, m rest nil, n first f, n rest nil, x type d",
+    "c intersectionOf l, l first d, l rest m, m first e, m rest n, m rest nil, n first f, n rest nil, x type c",
     "c intersectionOf l, l rest nil, x type c",
+    "c unionOf l, l first d, l rest m, m rest nil, x type d",
+    "c unionOf l, l rest m, m first e, m rest nil, x type e",
+    "c unionOf l, l first d, x type d",
+    "c intersectionOf l, l first d, l rest m, m first e, x type c",
+    "c unionOf l, l first d, k first e, k rest l, x type e",
+    "c intersectionOf l, l first d, l rest l, x type d",
+    "c unionOf l, l first d, l rest l, x type d",
+    "c intersectionOf l, l first d, l rest m, m first e, m rest l, x type d, x type e",
+    "c unionOf l, l first d, l rest m, m first e, m rest m, x type d",
+    "c unionOf l, l first d, l rest m, m first e, m rest n, n first f, n rest m, x type e",
+    "c unionOf l, l first d, l rest m, m first e, m rest l, m rest nil, x type e",
+    "c unionOf nil, nil first d, l rest nil, l first e, x type d, x type e",
+    "c unionOf nil, nil first d, nil rest nil, x type d",
+    "c unionOf nil, nil first d, nil rest m, m first e, m rest nil, x type e",
+    "c intersectionOf nil, nil first d, nil rest nil, x type c",
+    "c unionOf l, l first d, l rest nil, nil first e, nil rest nil, x type d, y type e",
+    "c unionOf l, l first d, l rest m, m first e, m rest nil, nil rest m, x type d, y type e",
+    "c unionOf l, l first d, l rest nil, nil first e, x type d",
+    "c intersectionOf l, l first d, l rest nil, nil first e, nil rest m, m first f, m rest nil, x type d",
+    "c intersectionOf l, l rest nil, nil rest m, m first e, x type e",
+    "o subPropertyOf first, c unionOf l, l o d, l rest nil, x type d",
+    "o subPropertyOf first, c unionOf l, l first d, l o e, l rest nil, x type d",
+    "o subPropertyOf rest, c unionOf l, l first d, l o nil, x type d",
+    "o subPropertyOf rest, c intersectionOf l, l first d, l rest nil, l o m, m first e, m rest nil, x type c",
 ];
 
 /// What makes 0 0 0, makes 0 one of the terms, or makes it stand for a property or class.
@@ -121,9 +175,10 @@ pub fn small(r: &mut Random) -> Model {
 pub fn load(terms: usize, r: &mut Random) -> Vec<Triple> {
     let mut load = Vec::new();
     for _ in 0..r.below(5) {
-        let list = match r.below(20) {
+        let list = match r.below(21) {
             0..=11 => PREMISES,
-            12..=16 => LISTS,
+            12..=14 => LISTS,
+            15..=17 => ODD_LISTS,
             _ => ZEROS,
         };
         let template = r.pick(list);
@@ -233,48 +288,62 @@ fn any_triple(terms: usize, r: &mut Random) -> Triple {
     [node(terms, r), predicate, object]
 }
 
-/// The template with a random term for each variable; now and then a triple of it is left out.
+/// The template with a random term for each variable; one in five lacks a triple.
 fn instance(template: &str, terms: usize, r: &mut Random) -> Vec<Triple> {
-    instance_over(template, r, &mut |r| node(terms, r))
-}
-
-fn instance_over(template: &str, r: &mut Random, term: &mut dyn FnMut(&mut Random) -> u32) -> Vec<Triple> {
-    let mut values = [0; 26];
-    for value in &mut values {
-        *value = term(r);
-    }
-    let id = |w: &str| match w.as_bytes() {
-        [letter] => values[(letter - b'a') as usize],
-        _ => word(w),
-    };
-    let mut triples = Vec::new();
-    for triple in template.split(", ") {
-        let ids: Vec<u32> = triple.split(' ').map(id).collect();
-        if r.percent(93) {
-            triples.push([ids[0], ids[1], ids[2]]);
-        }
+    let mut triples = instance_over(template, &mut |_| node(terms, r));
+    if r.percent(20) {
+        triples.remove(r.below(triples.len()));
     }
     triples
 }
 
-/// Premises of many rules, lists and checks over many terms: a large model without a plan. No node of it has two rdf:first,
-/// intersectionOf or unionOf objects in the load; inverse functional properties come up where asked for.
-pub(crate) fn mixture(parts: usize, inverse: bool, r: &mut Random) -> Model {
-    let terms = names(r.between(2 * parts, 4 * parts));
-    let single = ["first", "intersectionOf", "unionOf"].map(word);
+/// The template with a term for each of its variables.
+fn instance_over(template: &str, term: &mut dyn FnMut(char) -> u32) -> Vec<Triple> {
+    let mut values = HashMap::new();
+    let mut id = |w: &str| match w.as_bytes() {
+        [letter] => *values.entry(*letter).or_insert_with(|| term(char::from(*letter))),
+        _ => word(w),
+    };
+    let triple = |words: &str| {
+        let ids: Vec<u32> = words.split(' ').map(&mut id).collect();
+        [ids[0], ids[1], ids[2]]
+    };
+    template.split(", ").map(triple).collect()
+}
+
+/// What comes up in a mixture that puts it outside the original's domain.
+#[derive(Clone, Copy)]
+pub(crate) struct Outside {
+    pub inverse_functional: bool,
+    /// Else the lists are proper, each with cells of its own.
+    pub odd_lists: bool,
+}
+
+/// Premises of many rules, lists and checks over many terms: a large model without a plan. No node of it has two intersectionOf or
+/// unionOf objects in the load.
+pub(crate) fn mixture(parts: usize, outside: Outside, r: &mut Random) -> Model {
+    let shared = r.between(2 * parts, 4 * parts);
     loop {
-        let mut load: Vec<Triple> = Vec::new();
-        let mut taken = HashSet::new();
+        let (mut load, mut taken, mut owned) = (Vec::new(), HashSet::new(), 0);
         for _ in 0..parts {
-            let list = if r.percent(25) { LISTS } else { PREMISES };
+            let list = match r.below(100) {
+                0..=11 if outside.odd_lists => ODD_LISTS,
+                0..=24 => LISTS,
+                _ => PREMISES,
+            };
             let template = r.pick(list);
-            if !inverse && template.contains("InverseFunctionalProperty") {
+            if !outside.inverse_functional && template.contains("InverseFunctionalProperty") {
                 continue;
             }
-            let triples = instance_over(template, r, &mut |r| FIRST + r.below(terms.len()) as u32);
+            let triples = instance_over(template, &mut |letter| {
+                let own = OWN.contains(&letter) && !outside.odd_lists;
+                owned += usize::from(own);
+                FIRST + if own { shared + owned - 1 } else { r.below(shared) } as u32
+            });
+            let single = ["intersectionOf", "unionOf"].map(word);
             load.extend(triples.iter().filter(|[s, p, _]| !single.contains(p) || taken.insert([*s, *p])));
         }
-        let made = Model { terms: terms.clone(), load };
+        let made = Model { terms: names(shared + owned), load };
         if model::closure::close(&made.start(), model::STORE_LIMIT, 0).is_some() {
             return made;
         }

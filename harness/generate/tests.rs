@@ -2,10 +2,11 @@
 
 use crate::large::{benchmark, large, KINDS};
 use crate::small::small;
-use crate::{Random, FIRST};
-use model::closure::{check, close, in_domain, one_object_each};
+use crate::{word, Model, Random, FIRST};
+use model::closure::{check, close, close_reading, in_domain};
 use model::dictionary::{is_container_property, Term};
-use model::{LOAD_LIMIT, STORE_LIMIT};
+use model::mistakes::READINGS;
+use model::{Triple, LOAD_LIMIT, STORE_LIMIT};
 
 const MODELS: u64 = 1_500;
 
@@ -21,13 +22,7 @@ fn small_models_bring_up_all_rules_and_checks() {
         let model = small(&mut Random::item(5, k));
         let start = model.start();
         let closure = close(&start, STORE_LIMIT, 0).expect("a small closure");
-        if !one_object_each(&model.load, &closure) {
-            continue;
-        }
-        let answer = |without: u32| {
-            let closure = close(&start, STORE_LIMIT, without).expect("a small closure");
-            closure.into_iter().filter(|t| !t.contains(&0)).collect::<Vec<_>>()
-        };
+        let answer = |without: u32| answer(&close(&start, STORE_LIMIT, without).expect("a small closure"));
         let whole = answer(0);
         if !in_domain(&model.load, &closure) {
             rules[PRP_IFP] += u32::from(answer(1 << PRP_IFP) != whole);
@@ -46,7 +41,7 @@ fn small_models_bring_up_all_rules_and_checks() {
     }
     println!("of {inside} models, by the rule whose absence shows (0: zero triples): {rules:?}");
     println!("findings by check: {checks:?}, models with a container property: {containers}");
-    assert!(inside > MODELS * 3 / 4);
+    assert!(inside > MODELS * 3 / 5);
     // Whatever eq-trans (8) gives eq-rep-o gives too, and whatever cax-eqc1 and 2 (17) give, scm-eqc1 and cax-sco do.
     let shows = |rule: usize| rule != 8 && rule != 17;
     assert!((0..29).all(|k| rules[k] >= 10 || !shows(k)), "{rules:?}");
@@ -54,6 +49,71 @@ fn small_models_bring_up_all_rules_and_checks() {
     println!("predicates of twenty digits, others' and container properties: {twenty:?}");
     assert!(containers >= 50);
     assert!(twenty.iter().all(|n| *n >= 20), "{twenty:?}");
+}
+
+/// The triples without an id 0.
+fn answer(closure: &[Triple]) -> Vec<Triple> {
+    closure.iter().copied().filter(|t| !t.contains(&0)).collect()
+}
+
+/// Counts, for each wrong reading of lists, the models whose answer it changes: inside the original's domain, and outside it.
+fn by_reading(models: impl Iterator<Item = Model>) -> Vec<[u32; 2]> {
+    let mut counts = vec![[0; 2]; READINGS.len()];
+    for model in models {
+        let start = model.start();
+        let Some(closure) = close(&start, STORE_LIMIT, 0) else { continue };
+        let outside = usize::from(!in_domain(&model.load, &closure));
+        for ((_, reading), count) in READINGS.iter().zip(&mut counts) {
+            let wrong = close_reading(&start, STORE_LIMIT, 0, *reading);
+            count[outside] += u32::from(wrong.is_none_or(|wrong| answer(&wrong) != answer(&closure)));
+        }
+    }
+    for ((name, _), [inside, outside]) in READINGS.iter().zip(&counts) {
+        println!("{name}: shows in {inside} models inside the domain, {outside} outside");
+    }
+    counts
+}
+
+/// Every shape of list comes up, and decides an answer: another reading of it gives another answer.
+#[test]
+fn small_models_bring_up_all_readings_of_lists() {
+    let counts = by_reading((0..2 * MODELS).map(|k| small(&mut Random::item(5, k))));
+    assert!(counts.iter().all(|[inside, outside]| inside + outside >= 10), "{counts:?}");
+}
+
+#[test]
+fn large_models_bring_up_all_readings_of_lists() {
+    let of_lists = |model: &Model| model.load.iter().any(|t| t[1] == word("rest"));
+    let counts = by_reading((0..200).map(|k| large(&mut Random::item(5, k))).filter(of_lists).filter(|m| m.load.len() < 2_000));
+    assert!(counts.iter().all(|[inside, outside]| inside + outside >= 2), "{counts:?}");
+}
+
+/// List triples that only follow come up, and would decide an answer if they were read.
+#[test]
+fn small_models_bring_up_list_triples_of_the_closure() {
+    let of_a_list = |t: &&Triple| ["first", "rest"].map(word).contains(&t[1]);
+    let shows = |model: &Model| {
+        let start = model.start();
+        let closure = close(&start, STORE_LIMIT, 0).expect("a small closure");
+        let more: Vec<Triple> = start.iter().chain(closure.iter().filter(of_a_list)).copied().collect();
+        close(&more, STORE_LIMIT, 0).is_none_or(|other| answer(&other) != answer(&closure))
+    };
+    let count = (0..2 * MODELS).map(|k| small(&mut Random::item(5, k))).filter(shows).count();
+    println!("models in which list triples of the closure would show: {count}");
+    assert!(count >= 10, "{count}");
+}
+
+/// Whatever the domain leaves to the original, it reads as the model does: there its own reading changes nothing.
+#[test]
+fn inside_the_domain_the_original_reads_lists_alike() {
+    let pooled = READINGS.iter().find(|(name, _)| *name == "pooled").expect("the original's reading").1;
+    for model in (0..MODELS).map(|k| small(&mut Random::item(6, k))) {
+        let start = model.start();
+        let closure = close(&start, STORE_LIMIT, 0).expect("a small closure");
+        if in_domain(&model.load, &closure) {
+            assert_eq!(close_reading(&start, STORE_LIMIT, 0, pooled), Some(closure), "{}", model.text());
+        }
+    }
 }
 
 fn has_twenty_digits((_, bytes): &Term) -> bool {
@@ -82,6 +142,20 @@ fn benchmark_models_have_their_size() {
         for size in [1_000, 5_000, 16_000] {
             assert_eq!(benchmark(kind, size).load.len(), size);
         }
+    }
+}
+
+#[test]
+fn benchmark_models_have_a_thousand_recipes() {
+    let named = ["intersectionOf", "unionOf"].map(word);
+    for (kind, inside) in [("recipes", true), ("tails", false)] {
+        let model = benchmark(kind, 16_000);
+        assert_eq!(model.load.iter().filter(|t| named.contains(&t[1])).count(), 1_000);
+        let closure = close(&model.start(), STORE_LIMIT, 0).expect("a closure that a store holds");
+        assert_eq!(in_domain(&model.load, &closure), inside);
+        let rules = [21, 22, 23].map(|k| closure.len() - close(&model.start(), STORE_LIMIT, 1 << k).map_or(0, |c| c.len()));
+        println!("{kind}: a closure of {}, without rule 21, 22 or 23 so many less: {rules:?}", closure.len());
+        assert!(rules.iter().all(|n| *n >= 500), "{rules:?}");
     }
 }
 

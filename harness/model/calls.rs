@@ -1,7 +1,8 @@
 //! The four calls on numbers, docs/REFERENCE.md, 3: result, refusals in their order, and every buffer after the call.
 
-use crate::closure::{check, close};
+use crate::closure::{check, close_reading};
 use crate::dictionary::{self as dict, Term};
+use crate::lists::{members, Reading};
 use crate::*;
 
 /// A table, an arena and the two counters of `put`.
@@ -89,11 +90,11 @@ pub struct Buffers<'a> {
 
 /// Refusal, triple count, and the count of each check.
 pub fn run(d: Dictionary, load: &[u32], b: Buffers) -> (u32, u32, [u32; 5]) {
-    run_without(d, load, b, 0)
+    run_mistaken(d, load, b, 0, members)
 }
 
-/// The same with some rules left out, as `close` takes them.
-pub fn run_without(mut d: Dictionary, load: &[u32], b: Buffers, without: u32) -> (u32, u32, [u32; 5]) {
+/// The same with some rules left out and another reading of lists, as `close_reading` takes them.
+pub fn run_mistaken(mut d: Dictionary, load: &[u32], b: Buffers, without: u32, reading: Reading) -> (u32, u32, [u32; 5]) {
     let terms = match before_closing(&d, load, &b) {
         Ok(terms) => terms,
         Err(refusal) => return (refusal, 0, [0; 5]),
@@ -103,7 +104,7 @@ pub fn run_without(mut d: Dictionary, load: &[u32], b: Buffers, without: u32) ->
     b.findings.fill(0);
     b.work.fill(0);
     let load: Vec<Triple> = load.chunks(3).map(|t| [t[0], t[1], t[2]]).collect();
-    let Some(closure) = close(&starting_triples(&terms, &load), b.store.len() / 3, without) else {
+    let Some(closure) = close_reading(&starting_triples(&terms, &load), b.store.len() / 3, without, reading) else {
         return (STORE_FULL, 0, [0; 5]);
     };
     let found = check(&closure);

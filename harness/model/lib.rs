@@ -7,6 +7,7 @@ pub mod calls;
 pub mod closure;
 pub mod dictionary;
 pub mod lists;
+pub mod mistakes;
 pub mod names;
 
 #[cfg(test)]

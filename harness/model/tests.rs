@@ -1,7 +1,10 @@
 //! The worked cases of docs/REFERENCE.md, 11, with their values.
 
 use crate::calls::{self, Buffers, Dictionary};
+use crate::closure::{close, in_domain};
 use crate::dictionary::{is_container_property, layout, starting_terms, Term};
+use crate::lists::{members, Cells};
+use crate::mistakes::READINGS;
 use crate::*;
 
 struct Owned {
@@ -122,6 +125,136 @@ fn two_lists_that_end_in_nil() {
     let r = run(&load, 60, 0);
     assert!(r.answer.contains(&[31, 1, 33]));
     assert!(!r.answer.contains(&[31, 1, 35]));
+}
+
+/// Cells 40, 41 and so on, before 50, which has the member 90, and nil.
+const THREE: [Triple; 6] = [[40, 2, 91], [40, 3, 41], [41, 2, 90], [41, 3, 50], [50, 2, 90], [50, 3, 4]];
+
+fn members_with(more: &[Triple], named: u32) -> Vec<u32> {
+    members(&Cells::new(&[&THREE[..], more].concat()), named)
+}
+
+#[test]
+fn members_in_order_from_the_cell_named() {
+    assert_eq!(members_with(&[], 40), [91, 90, 90]);
+    assert_eq!(members_with(&[], 41), [90, 90]);
+    assert_eq!(members_with(&[], 50), [90]);
+    assert_eq!(members_with(&[], 4), []);
+    assert_eq!(members_with(&[], 91), []);
+}
+
+#[test]
+fn cells_of_two_lists() {
+    let other = [[60, 2, 92], [60, 3, 50]];
+    assert_eq!(members_with(&other, 60), [92, 90]);
+    assert_eq!(members_with(&other, 40), [91, 90, 90]);
+    // What is wrong before the cell named does not matter.
+    assert_eq!(members_with(&[[40, 2, 92], [60, 3, 41]], 41), [90, 90]);
+}
+
+#[test]
+fn improper_lists() {
+    for more in [[50, 2, 92], [50, 3, 51], [50, 3, 40], [50, 3, 50], [41, 2, 92], [41, 3, 4], [40, 2, 92], [40, 3, 50]] {
+        assert_eq!(members_with(&[more], 40), [], "{more:?}");
+    }
+    for k in 0..THREE.len() {
+        let less: Vec<Triple> = (0..THREE.len()).filter(|j| *j != k).map(|j| THREE[j]).collect();
+        assert_eq!(members(&Cells::new(&less), 40), [], "without {:?}", THREE[k]);
+    }
+    let ring = |to: u32| [&THREE[..5], &[[50, 3, to]]].concat();
+    for to in [40, 41, 50] {
+        assert_eq!(members(&Cells::new(&ring(to)), 40), [], "back to {to}");
+    }
+}
+
+#[test]
+fn a_repeated_list_triple_counts_once() {
+    assert_eq!(members_with(&THREE, 40), [91, 90, 90]);
+}
+
+#[test]
+fn nil_is_always_the_end() {
+    let of_nil = [[4, 2, 92], [4, 3, 60], [60, 2, 93], [60, 3, 4]];
+    assert_eq!(members_with(&of_nil, 40), [91, 90, 90]);
+    assert_eq!(members_with(&of_nil, 60), [93]);
+    assert_eq!(members_with(&of_nil, 4), []);
+    assert_eq!(members_with(&[[4, 2, 92], [4, 3, 4]], 4), []);
+}
+
+/// 31 and 32 are 33 and 35, and 34 and 35: each admits by its own members.
+#[test]
+fn two_recipes_with_one_tail() {
+    let (c, l, m, n) = ([31, 32], 36, 37, 38);
+    let lists = [[l, 2, 33], [l, 3, n], [m, 2, 34], [m, 3, n], [n, 2, 35], [n, 3, 4]];
+    let closed = |p: u32, types: &[Triple]| {
+        let load = [&lists[..], &[[c[0], p, l], [c[1], p, m]], types].concat();
+        assert!(!in_domain(&load, &close(&load, 99, 0).expect("a small closure")));
+        close(&load, 99, 0).expect("a small closure")
+    };
+    let classes = |closure: &[Triple], x: u32| c.map(|c| closure.contains(&[x, 1, c]));
+    let both = closed(21, &[[40, 1, 33], [40, 1, 35], [41, 1, 34], [41, 1, 35]]);
+    assert_eq!((classes(&both, 40), classes(&both, 41)), ([true, false], [false, true]));
+    let either = closed(22, &[[40, 1, 33], [41, 1, 34], [42, 1, 35]]);
+    assert_eq!([40, 41, 42].map(|x| classes(&either, x)), [[true, false], [false, true], [true, true]]);
+    let of_the_recipe = closed(21, &[[40, 1, 31]]);
+    assert_eq!([33, 34, 35].map(|d| of_the_recipe.contains(&[40, 1, d])), [true, false, true]);
+}
+
+/// Rules read the lists of the load, whatever list triples follow.
+#[test]
+fn list_triples_of_the_closure() {
+    let load = [[31, 7, 2], [32, 22, 33], [33, 31, 34], [33, 3, 4], [35, 1, 34]];
+    let r = run(&load, 60, 0);
+    assert!(r.answer.contains(&[33, 2, 34]) && !r.answer.contains(&[35, 1, 32]));
+    let load = [[31, 7, 2], [32, 22, 33], [33, 2, 34], [33, 31, 35], [33, 3, 4], [35, 1, 34]];
+    let r = run(&load, 60, 0);
+    assert!(r.answer.contains(&[33, 2, 35]) && r.answer.contains(&[35, 1, 32]));
+}
+
+/// The original is the measure where it reads the lists that are named as this model does.
+#[test]
+fn lists_inside_the_domain() {
+    let inside = |more: &[Triple], named: u32| in_domain(&[&THREE[..], more].concat(), &[[31, 21, named]]);
+    assert!(inside(&[], 40) && inside(&THREE, 40));
+    assert!(!inside(&[], 41) && !inside(&[], 50), "named at a later cell");
+    assert!(!inside(&[[60, 3, 50]], 40) && !inside(&[[60, 3, 40]], 40) && !inside(&[[4, 3, 50]], 40), "a cell in another triple");
+    assert!(!inside(&[[50, 3, 40]], 40) && !inside(&[[41, 3, 4]], 40), "improper");
+    assert!(inside(&[[70, 3, 70], [71, 3, 72], [72, 2, 73]], 40), "an improper list that is not named");
+    assert!(inside(&[], 4) && inside(&[], 91) && inside(&[], 0), "no list for either");
+    assert!(
+        inside(&[[4, 2, 92], [4, 3, 60]], 40) && !inside(&[[4, 2, 92]], 4) && !inside(&[[4, 3, 60]], 4),
+        "list triples of nil"
+    );
+    assert!(!inside(&[[60, 2, 90]], 60) && !inside(&[[60, 3, 61]], 61), "no rdf:rest, no triple of its own");
+    assert!(!inside(&[[70, 2, 71], [70, 2, 72]], 40), "two rdf:first objects, wherever");
+}
+
+/// Thousands of cells, all of them named: a proper list, and a ring.
+#[test]
+fn long_lists() {
+    let (cells, member, thing) = (4_000, 31, 32);
+    for end in [4, 40] {
+        let mut load = vec![[thing, 1, member]];
+        for k in 40..40 + cells {
+            load.extend([[k, 2, member], [k, 3, if k + 1 < 40 + cells { k + 1 } else { end }], [20_000 + k, 22, k]]);
+        }
+        let closure = close(&load, STORE_LIMIT, 0).expect("a closure that a store holds");
+        let classes = closure.iter().filter(|t| t[..2] == [thing, 1]).count();
+        assert_eq!(classes, if end == 4 { cells as usize + 2 } else { 2 });
+    }
+}
+
+/// Each wrong reading differs from the right one.
+#[test]
+fn wrong_readings() {
+    let odd =
+        [[41, 2, 92], [60, 2, 93], [60, 3, 61], [61, 3, 4], [62, 2, 94], [63, 2, 95], [63, 3, 63], [64, 2, 96], [64, 3, 50]];
+    let more = [[65, 2, 97], [65, 2, 97], [65, 3, 4], [66, 2, 98], [66, 3, 4], [66, 3, 65], [4, 2, 99], [4, 3, 64]];
+    let cells = Cells::new(&[&THREE[..], &odd, &more].concat());
+    let nodes = [4, 40, 41, 50, 60, 61, 62, 63, 64, 65, 66];
+    for (name, reading) in READINGS {
+        assert!(nodes.iter().any(|node| reading(&cells, *node) != members(&cells, *node)), "{name}");
+    }
 }
 
 #[test]

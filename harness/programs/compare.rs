@@ -1,5 +1,5 @@
 //! compare N [SEED]: the original against the port, on N small and N / 100 large random models inside demand 2's domain. Models
-//! outside it because they type a property inverse functional are compared with the reference model, beside the N.
+//! outside it, met on the way, are compared with the reference model, beside the N.
 //!
 //! Compared are the triples, the findings as a set after each record is put into the original's message text, the counts, the
 //! number of terms, and the sizes at which store and findings just suffice. Exit status 1 where there is a difference.
@@ -8,7 +8,7 @@
 mod support;
 
 use generate::{large::large, small::small, Model, Random, FIRST};
-use model::closure::{check, close, names_inverse_functional, one_object_each, types_inverse_functional};
+use model::closure::{check, close, in_domain, names_inverse_functional};
 use model::{Triple, FINDINGS_LIMIT, STORE_LIMIT};
 use original::{Closed as Reference, Original};
 use std::collections::BTreeSet;
@@ -17,27 +17,33 @@ use std::sync::Mutex;
 use std::time::{Duration, Instant};
 use tablestork::{Closed, Dictionary, Refusal};
 
-/// What decides: the original inside the domain, the reference model where a property is typed inverse functional.
+/// What decides: the original inside the domain, the reference model outside.
 #[derive(Clone, Copy, PartialEq)]
 enum Measure {
     Original,
     Model,
 }
 
-enum Verdict {
-    Outside,
-    Same { by: Measure, refused: bool },
-    Differs { by: Measure, how: String },
+impl Measure {
+    fn name(self) -> &'static str {
+        match self {
+            Measure::Original => "the original",
+            Measure::Model => "the reference model",
+        }
+    }
 }
 
+enum Verdict {
+    Same { refused: bool },
+    Differs { how: String },
+}
+
+/// Counts of models inside the domain, then of those outside.
 #[derive(Default)]
 struct Tally {
-    compared: u64,
-    outside: u64,
-    /// Of those outside.
-    by_model: u64,
-    refused: u64,
-    differences: u64,
+    compared: [u64; 2],
+    refused: [u64; 2],
+    differences: [u64; 2],
 }
 
 /// How a dictionary for a model is made.
@@ -58,23 +64,22 @@ fn main() {
 fn compare(name: &str, n: u64, model: impl Fn(u64) -> Model + Sync, make: Make) -> u64 {
     let tally = Mutex::new(Tally::default());
     support::in_parallel(u64::MAX, |k| {
-        if tally.lock().expect("the tally").compared >= n {
+        if tally.lock().expect("the tally").compared[0] >= n {
             return false;
         }
         let model = model(k);
-        let verdict = judge(&model, make);
+        let (by, verdict) = judge(&model, make);
         let mut tally = tally.lock().expect("the tally");
+        if tally.compared[0] >= n {
+            return false;
+        }
+        let outside = usize::from(by == Measure::Model);
+        tally.compared[outside] += 1;
         match verdict {
-            Verdict::Outside => tally.outside += 1,
-            _ if tally.compared >= n => {}
-            Verdict::Same { by, refused } => {
-                tally.count(by);
-                tally.refused += u64::from(refused && by == Measure::Original);
-            }
-            Verdict::Differs { by, how } => {
-                tally.count(by);
-                tally.differences += 1;
-                let before = tally.differences - 1;
+            Verdict::Same { refused } => tally.refused[outside] += u64::from(refused),
+            Verdict::Differs { how } => {
+                tally.differences[outside] += 1;
+                let before = tally.differences.iter().sum::<u64>() - 1;
                 drop(tally);
                 report(name, k, &model, &how, before, make);
             }
@@ -82,70 +87,62 @@ fn compare(name: &str, n: u64, model: impl Fn(u64) -> Model + Sync, make: Make) 
         true
     });
     let t = tally.into_inner().expect("the tally");
-    println!(
-        "{name}: {} compared, {} outside the domain, {} of them with the reference model, {} above a store's or findings' limit, \
-         {} differences",
-        t.compared, t.outside, t.by_model, t.refused, t.differences
-    );
-    t.differences
+    for (k, with) in ["inside the domain, with the original", "outside, with the reference model"].into_iter().enumerate() {
+        println!(
+            "{name}: {} compared {with}, {} of them above a store's or findings' limit, {} differences",
+            t.compared[k], t.refused[k], t.differences[k]
+        );
+    }
+    t.differences.iter().sum()
 }
 
-impl Tally {
-    fn count(&mut self, by: Measure) {
-        match by {
-            Measure::Original => self.compared += 1,
-            Measure::Model => {
-                self.outside += 1;
-                self.by_model += 1;
-            }
+fn judge(model: &Model, make: Make) -> (Measure, Verdict) {
+    let (by, reference) = measured(model);
+    let refused = reference.closure > STORE_LIMIT || reference.messages.len() > FINDINGS_LIMIT;
+    let verdict = match catch_unwind(AssertUnwindSafe(|| same(model, by, &reference, make))) {
+        Ok(Ok(())) => Verdict::Same { refused },
+        Ok(Err(how)) => Verdict::Differs { how },
+        Err(_) => Verdict::Differs { how: "a panic".to_string() },
+    };
+    (by, verdict)
+}
+
+/// The original's outcome inside the domain, else the reference model's. A model is inside by the original's closure exactly if it is by
+/// the reference model's: inside, each step of one is a step of the other, and what leads outside is in either closure.
+fn measured(model: &Model) -> (Measure, Reference) {
+    // The original pairs each statement of an inverse functional property with each, which takes long: there the reference model goes
+    // first, and where its closure is above a store it decides.
+    if names_inverse_functional(&model.load) {
+        let closure = close(&model.start(), STORE_LIMIT, 0);
+        if closure.as_ref().is_none_or(|c| !in_domain(&model.load, c)) {
+            return (Measure::Model, by_the_model(model, closure));
         }
     }
-}
-
-fn judge(model: &Model, make: Make) -> Verdict {
-    let (by, reference) = match inverse_functional(model) {
-        // Where the model's closure types no property inverse functional, the original's does not either: their rules are the same then.
-        None => (Measure::Original, original::close(&model.terms, &model.load)),
-        Some(closure) => (Measure::Model, by_the_model(model, closure.as_deref())),
-    };
-    // Where the Rust drops a list, a class or a member, the two objects that it chose from are in its own closure.
-    if by == Measure::Original && !one_object_each(&model.load, &reference.original.closure()) {
-        return Verdict::Outside;
+    let reference = original::close(&model.terms, &model.load);
+    if in_domain(&model.load, &reference.original.closure()) {
+        return (Measure::Original, reference);
     }
-    let refused = reference.closure > STORE_LIMIT || reference.messages.len() > FINDINGS_LIMIT;
-    match catch_unwind(AssertUnwindSafe(|| same(model, &reference, make))) {
-        Ok(Ok(())) => Verdict::Same { by, refused },
-        Ok(Err(how)) => Verdict::Differs { by, how },
-        Err(_) => Verdict::Differs { by, how: "a panic".to_string() },
-    }
-}
-
-/// The closure, where it types a property inverse functional; nothing within where it is larger than a store.
-fn inverse_functional(model: &Model) -> Option<Option<Vec<Triple>>> {
-    if !names_inverse_functional(&model.load) {
-        return None;
-    }
-    let closure = close(&model.start(), STORE_LIMIT, 0);
-    closure.as_ref().is_none_or(|c| types_inverse_functional(c)).then_some(closure)
+    (Measure::Model, by_the_model(model, close(&model.start(), STORE_LIMIT, 0)))
 }
 
 /// What the reference model gives, in the form of the original's outcome; the original only keeps the terms, for message texts.
-fn by_the_model(model: &Model, closure: Option<&[Triple]>) -> Reference {
+fn by_the_model(model: &Model, closure: Option<Vec<Triple>>) -> Reference {
     let mut original = Original::new();
     for (kind, bytes) in &model.terms_of_a_run()[FIRST as usize..] {
         original.put(*kind, bytes);
     }
+    let size = closure.as_ref().map_or(STORE_LIMIT + 1, Vec::len);
     let rows = closure.unwrap_or_default();
     Reference {
         triples: rows.iter().copied().filter(|t| !t.contains(&0)).collect(),
-        messages: check(rows).into_iter().map(|f| original.message(f)).collect(),
-        closure: closure.map_or(STORE_LIMIT + 1, <[Triple]>::len),
+        messages: check(&rows).into_iter().map(|f| original.message(f)).collect(),
+        closure: size,
         took: Duration::ZERO,
         original,
     }
 }
 
-fn same(model: &Model, reference: &Reference, make: Make) -> Result<(), String> {
+fn same(model: &Model, by: Measure, reference: &Reference, make: Make) -> Result<(), String> {
     let before = make(model)?;
     let (store, findings) = (reference.closure, reference.messages.len());
     let run = |triples: usize, records: usize| {
@@ -165,9 +162,9 @@ fn same(model: &Model, reference: &Reference, make: Make) -> Result<(), String> 
     }
     let (result, terms) = run(store, findings);
     let closed = result.map_err(|r| format!("a store of {store} and findings of {findings} suffice, refused: {r:?}"))?;
-    same_answer(&closed, reference)?;
+    same_answer(&closed, by, reference)?;
     if reference.original.get(terms).is_some() || reference.original.get(terms - 1).is_none() {
-        return Err(format!("{terms} terms after the run, not as many as in the original"));
+        return Err(format!("{terms} terms after the run, not as many as in {}", by.name()));
     }
     refused_with(Refusal::StoreFull, store - 1, findings)?;
     if findings > 0 {
@@ -176,33 +173,28 @@ fn same(model: &Model, reference: &Reference, make: Make) -> Result<(), String> 
     Ok(())
 }
 
-fn same_answer(closed: &Closed, reference: &Reference) -> Result<(), String> {
-    let apart = |only: &str, a: BTreeSet<String>| a.into_iter().map(|t| format!("{only}: {t}\n")).collect::<String>();
+/// The lines that only one of the two has.
+fn apart(what: &str, port: BTreeSet<String>, by: Measure, reference: BTreeSet<String>) -> String {
+    let only = |whose: &str, lines: BTreeSet<String>| lines.iter().map(|t| format!("only {whose}: {t}\n")).collect::<String>();
+    format!("{what}\n{}{}", only("the port", &port - &reference), only(by.name(), &reference - &port))
+}
+
+fn same_answer(closed: &Closed, by: Measure, reference: &Reference) -> Result<(), String> {
     if closed.triples != reference.triples {
-        let text = |list: &[[u32; 3]]| list.iter().map(|[s, p, o]| format!("{s} {p} {o}")).collect::<BTreeSet<_>>();
-        let (port, original) = (text(&closed.triples), text(&reference.triples));
-        return Err(format!(
-            "triples\n{}{}",
-            apart("only the port", &port - &original),
-            apart("only the original", &original - &port)
-        ));
+        let text = |list: &[Triple]| list.iter().map(|[s, p, o]| format!("{s} {p} {o}")).collect();
+        return Err(apart("triples", text(&closed.triples), by, text(&reference.triples)));
     }
     let messages: BTreeSet<(u32, String)> = closed.findings.iter().map(|f| reference.original.message(*f)).collect();
     if messages != reference.messages {
-        let text = |set: &BTreeSet<(u32, String)>| set.iter().map(|(_, m)| m.clone()).collect::<BTreeSet<_>>();
-        let (port, original) = (text(&messages), text(&reference.messages));
-        return Err(format!(
-            "findings\n{}{}",
-            apart("only the port", &port - &original),
-            apart("only the original", &original - &port)
-        ));
+        let text = |set: &BTreeSet<(u32, String)>| set.iter().map(|(_, m)| m.clone()).collect();
+        return Err(apart("findings", text(&messages), by, text(&reference.messages)));
     }
     let mut counts = [0; 5];
     for (check, _) in &reference.messages {
         counts[*check as usize - 1] += 1;
     }
     if closed.counts != counts || closed.findings.len() != messages.len() {
-        return Err(format!("counts {:?}, in the original {counts:?}", closed.counts));
+        return Err(format!("counts {:?}, in {} {counts:?}", closed.counts, by.name()));
     }
     if !closed.findings.windows(2).all(|w| w[0] < w[1]) {
         return Err("findings do not ascend".to_string());
@@ -224,9 +216,9 @@ fn report(name: &str, k: u64, model: &Model, how: &str, before: u64, make: Make)
         while at < small.load.len() && clock.elapsed() < LONGEST {
             let mut fewer = small.clone();
             fewer.load.drain(at..(at + part).min(small.load.len()));
-            match judge(&fewer, make) {
-                Verdict::Differs { how: now, .. } => (small, how) = (fewer, now),
-                _ => at += part,
+            match judge(&fewer, make).1 {
+                Verdict::Differs { how: now } => (small, how) = (fewer, now),
+                Verdict::Same { .. } => at += part,
             }
         }
         part /= 2;

@@ -1,22 +1,22 @@
 -- What the dictionary after the put of the run's terms, and a load that is not refused, say to the parts of the closing. Assumes nothing.
 use mathlib.Core.Path.{_≡_, refl, ap, subst, _∙_}
-use mathlib.Core.Logic.{inl}
 use mathlib.Core.Bool.{Bool}
 use mathlib.Core.List.{List}
-use Prim.Native.Nat.{ℕ, _+_, _*_, _/_, _<_}
+use Prim.Native.Nat.{ℕ, _+_, _/_, _<_}
 use native.Mathlib.Omega.{arith}
 use lib.ListN.{length}
-use Rattle.common.specs.Triples.{triple, In}
+use Rattle.common.specs.Triples.{Triple, triple, In}
 use Rattle.meaning.specs.Containers.{Containers}
 use Rattle.common.specs.Sizes.{load-width}
 use Rattle.common.specs.Rows.{triples}
+use Rattle.meaning.specs.Lists.{members}
 use Rattle.meaning.specs.Start.{Start}
 use Rattle.meaning.specs.Closure.{Sub}
 use Rattle.meaning.proofs.LoadClosure.{closure-is}
 use Rattle.meaning.proofs.Ids.{Each, closure-below}
-use Rattle.store_rows.specs.Rows.{rowAt}
-use Rattle.store_rows.specs.Chains.{keys}
-use Rattle.store_rows.specs.Store.{Small, Extended}
+use Rattle.store_rows.specs.Rows.{rowAt, rows}
+use Rattle.store_rows.specs.Layout.{members-at, rests-at, roles-length}
+use Rattle.store_rows.specs.Store.{Extended}
 use Rattle.store_rows.proofs.Rows.{in-rows←}
 use Rattle.dictionary_layout.specs.Layout.{Dict, decode}
 use Rattle.dictionary_layout.specs.Values.{contents}
@@ -25,12 +25,11 @@ use Rattle.dictionary_entries.proofs.Reading.{Lengths, lengths}
 use Rattle.engine_start.specs.Starting.{containers-by, Loadable, StartOf}
 use Rattle.engine_start.proofs.Starting.{rows-triples}
 use Rattle.engine_table.specs.Clauses.{Clause, TableOfRules}
-use Rattle.store_rows.specs.Layout.{members-at, lists-at}
-use Rattle.engine_disjoint_sets.specs.Lists.{Ready, Made}
+use Rattle.engine_lists.specs.Lists.{Ready, Made}
 use Rattle.engine_closing.specs.Closing.{Closable}
 use Rattle.driver_load.specs.Closed.{containers}
 use Rattle.driver_load.specs.Loads.{Termed, Loaded, Unused}
-use Rattle.driver_load.proofs.Loading.{rows-start}
+use Rattle.driver_load.proofs.Loading.{LoadLists, rows-start}
 
 module _ {table arena load store work : List ℕ} {r : RunTerms} (A : Termed table arena r)
     (L : Loaded load store work (r .counters .terms)) where
@@ -51,23 +50,48 @@ module _ {table arena load store work : List ℕ} {r : RunTerms} (A : Termed tab
   unfolding containers
   same-containers = ap (containers-by (decode d)) (A .ids)
 
-  pub loadable : Loadable load (length load / load-width) (r .ids)
+  -- the load has as many triples as 3 goes into its numbers
+  abbrev count : ℕ
+  count = length load / load-width
+
+  load-rows : rows count load ≡ triples load
+  load-rows = rows-triples count load (omega (arith, L .whole))
+
+  -- the ids of the load are terms
+  load-known : (j : ℕ) → j < count → Each (λ i. i < terms) (rowAt load j .s) (rowAt load j .p) (rowAt load j .o)
+  load-known j p =
+      L .known (rowAt load j) (subst (In (rowAt load j)) load-rows
+      (in-rows← {l = load} {n = count} {t = rowAt load j} (record { at = j; below = p; is = refl })))
+
+  pub loadable : Loadable load count (r .ids)
   loadable = record {
     long = omega (arith, L .whole);
-    small = λ j p. small j p;
+    small = λ j p. let k = load-known j p in
+        record { s = omega (arith, k .0, K .few); p = omega (arith, k .1, K .few); o = omega (arith, k .2, K .few) };
     ids = record {
       property = omega (arith, A .below .property, K .few);
       membership = omega (arith, A .below .membership, K .few);
       member = omega (arith, A .below .member, K .few);
     };
   }
-    where
-      small : (j : ℕ) → j < length load / load-width → Small (rowAt load j)
-      small j p =
-          let i = subst (In (rowAt load j)) (rows-triples (length load / load-width) load (omega (arith, L .whole)))
-          (in-rows← {l = load} {n = length load / load-width} {t = rowAt load j} (record { at = j; below = p; is = refl })) in
-          let k = L .known (rowAt load j) i in
-          record { s = omega (arith, k .0, K .few); p = omega (arith, k .1, K .few); o = omega (arith, k .2, K .few) }
+
+  -- the lists of the load can be made
+  pub listable : {hash ix : List ℕ} {k : ℕ} → k ≡ terms → Unused hash ix → Ready k load count work ix
+  listable e u = record {
+    rows = record {
+      long = omega (arith, L .whole);
+      subjects = λ j p. omega (arith, load-known j p .0);
+      objects = λ j p. omega (arith, load-known j p .2);
+    };
+    room = record { long = omega (arith, L .room); few = omega (arith, K .few) };
+    wide = u .wide;
+    no-members = λ x p. u .zero (members-at + x);
+    no-rests = λ x p. u .zero (rests-at + x);
+  }
+
+  -- they are those that the load's triples say
+  pub load-lists : {k : ℕ} {work' ix ix' : List ℕ} → Made k load count work' ix ix' → LoadLists (triples load) work'
+  load-lists m = record { same = λ x. m .lists x ∙ ap (λ (ts : List Triple). members ts x) load-rows }
 
   -- every id of the start is a term's
   start-known : Sub (Start c (triples load)) (Each (λ i. i < terms))
@@ -84,31 +108,17 @@ module _ {table arena load store work : List ℕ} {r : RunTerms} (A : Termed tab
     row-known : (j : ℕ) → j < n → Each (λ i. i < terms) (rowAt l j .s) (rowAt l j .p) (rowAt l j .o)
     row-known j p = start-known _ _ _ (rows-start c (triples load) started _ _ _ (record { at = j; below = p; is = refl }))
 
-    -- the list sets can be made
-    pub listable : {hash ix : List ℕ} {k : ℕ} → k ≡ terms → Unused hash ix → Ready k l n work ix
-    listable {hash} {ix} {k} e u = record {
-      rows = record {
-        long = a .good .room;
-        few = omega (arith, a .good .room, a .good .few);
-        subjects = λ j p. omega (arith, row-known j p .0);
-        objects = λ j p. omega (arith, row-known j p .2);
-      };
-      room = record { long = omega (arith, L .room); few = omega (arith, K .few) };
-      blank = record { wide = u .wide; no-groups = λ x p. u .zero (members-at + x); no-members = λ x p. u .zero (lists-at + x) };
-    }
-
-    -- and the store be closed
+    -- the store can be closed, once the lists are made
     pub closable : {table' : List Clause} {hash ix ix' work' roles : List ℕ} {k : ℕ} → k ≡ terms → Unused hash ix
-        → TableOfRules table' → Made k l n work' ix ix' → length ix' ≡ length ix → length roles ≡ 2 * keys
-        → Closable table' l h ix' roles work' n
-    closable {k = k} e u t m q w = record {
+        → TableOfRules table' → Made k load count work' ix ix' → length roles ≡ roles-length → Closable table' l h ix' roles work' n
+    closable e u t m w = record {
       rules = t;
       good = a .good;
-      terms = k;
-      enough = omega (arith, K .some);
-      predicates = λ j p. omega (arith, row-known j p .1);
-      sets = m .sets;
-      wide = omega (arith, u .wide);
-      blank = λ x p. m .elsewhere x (inl p) ∙ u .zero x;
+      lists = m .chains;
+      enough = omega (arith, K .some, m .all-terms);
+      subjects = λ j p. omega (arith, row-known j p .0, m .all-terms);
+      predicates = λ j p. omega (arith, row-known j p .1, m .all-terms);
+      objects = λ j p. omega (arith, row-known j p .2, m .all-terms);
+      blank = λ x p. m .elsewhere x p ∙ u .zero x;
       roles = omega arith;
     }

@@ -4,7 +4,8 @@ pub mod Analysis
 pub mod Premises
 pub mod Checks
 pub mod Counts
-pub mod ListSets
+pub mod Lists
+pub mod Groups
 pub mod Closure
 pub mod Start
 pub mod LoadClosure

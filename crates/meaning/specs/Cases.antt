@@ -1,11 +1,13 @@
--- The worked cases, REFERENCE 11.1 and 11.2, one table. Models of terms with ids up to 35, so that a run puts its three terms as 36, 37
--- and 38; where the reference names only a part of the answer, the whole of it was worked out by hand from the rules.
+-- The worked cases, REFERENCE 11.1 and 11.2, one table. Models of terms with ids up to 40, so that a run puts its three terms as 41, 42
+-- and 43; where the reference names only a part of the answer, the whole of it was worked out from the rules, the members of each list
+-- being given by hand.
 -- proofs/Cases.antt proves the table by one theorem over the definitions. Assumes nothing.
 use mathlib.Core.Path.{_≡_}
 use mathlib.Core.Bool.{false}
 use mathlib.Core.List.{List, [], _∷_}
 use Prim.Native.Nat.{ℕ, suc}
 use Rattle.common.specs.Triples.{Triple, triple, finding}
+use Rattle.meaning.specs.Lists.{members}
 use Rattle.meaning.specs.Containers.{Containers}
 use Rattle.meaning.specs.Closure.{closure}
 use Rattle.meaning.specs.Run.{Outcome, store-full, accepted, run}
@@ -15,18 +17,71 @@ pub data Case : Type 0 where
   model : List Triple → ℕ → ℕ → Outcome → Case
   -- a load, the store's triples, and the whole closure, zero triples among it
   whole : List Triple → ℕ → List Triple → Case
+  -- list triples, a node, and the members of the list that it names
+  list : List Triple → ℕ → List ℕ → Case
 
 -- no id is a container property's
 abbrev pub no-containers : Containers
-no-containers = record { is = λ p. false; property = 36; membership = 37; member = 38 }
+no-containers = record { is = λ p. false; property = 41; membership = 42; member = 43 }
 
 abbrev pub Holds : Case → Type 0
 Holds (model load cap fcap o) = run no-containers cap fcap load ≡ o
 Holds (whole load cap ts) = closure no-containers (suc cap) load ≡ ts
+Holds (list ts l ms) = members ts l ≡ ms
 
 abbrev pub AllHold : List Case → Type 0
 AllHold [] = Unit {0}
 AllHold (x ∷ xs) = Holds x × AllHold xs
+
+-- lists, REFERENCE 5.2
+abbrev pub list-cases : List Case
+list-cases =
+    -- two unions whose lists have one tail: 39 1 31 and 40 1 32, and neither is of both
+    model (triple 31 22 33 ∷ triple 32 22 34 ∷ triple 33 2 36 ∷ triple 33 3 35 ∷ triple 34 2 37 ∷ triple 34 3 35
+    ∷ triple 35 2 38 ∷ triple 35 3 4 ∷ triple 39 1 36 ∷ triple 40 1 37 ∷ []) 65535 65535
+    (accepted (triple 9 1 9 ∷ triple 9 1 30 ∷ triple 10 1 9 ∷ triple 10 1 30 ∷ triple 31 1 9 ∷ triple 31 22 33
+    ∷ triple 32 1 9 ∷ triple 32 22 34 ∷ triple 33 1 9 ∷ triple 33 2 36 ∷ triple 33 3 35 ∷ triple 34 1 9 ∷ triple 34 2 37
+    ∷ triple 34 3 35 ∷ triple 35 1 9 ∷ triple 35 2 38 ∷ triple 35 3 4 ∷ triple 39 1 9 ∷ triple 39 1 31 ∷ triple 39 1 36
+    ∷ triple 40 1 9 ∷ triple 40 1 32 ∷ triple 40 1 37 ∷ []) [] 23 (0 ∷ 0 ∷ 0 ∷ 0 ∷ 0 ∷ [])) ∷
+    -- two intersections whose lists have one tail: 39 1 31 and 40 1 32, and neither is of both
+    model (triple 31 21 33 ∷ triple 32 21 34 ∷ triple 33 2 36 ∷ triple 33 3 35 ∷ triple 34 2 37 ∷ triple 34 3 35
+    ∷ triple 35 2 38 ∷ triple 35 3 4 ∷ triple 39 1 36 ∷ triple 39 1 38 ∷ triple 40 1 37 ∷ triple 40 1 38 ∷ []) 65535 65535
+    (accepted (triple 9 1 9 ∷ triple 9 1 30 ∷ triple 10 1 9 ∷ triple 10 1 30 ∷ triple 31 1 9 ∷ triple 31 21 33
+    ∷ triple 32 1 9 ∷ triple 32 21 34 ∷ triple 33 1 9 ∷ triple 33 2 36 ∷ triple 33 3 35 ∷ triple 34 1 9 ∷ triple 34 2 37
+    ∷ triple 34 3 35 ∷ triple 35 1 9 ∷ triple 35 2 38 ∷ triple 35 3 4 ∷ triple 39 1 9 ∷ triple 39 1 31 ∷ triple 39 1 36
+    ∷ triple 39 1 38 ∷ triple 40 1 9 ∷ triple 40 1 32 ∷ triple 40 1 37 ∷ triple 40 1 38 ∷ []) [] 25 (0 ∷ 0 ∷ 0 ∷ 0 ∷ 0 ∷ [])) ∷
+    -- a list named at its second cell, a triple repeated: 36 1 31, which needs no 36 1 34
+    model (triple 31 21 33 ∷ triple 32 2 34 ∷ triple 32 3 33 ∷ triple 33 2 35 ∷ triple 33 3 4 ∷ triple 33 2 35
+    ∷ triple 36 1 35 ∷ []) 65535 65535
+    (accepted (triple 9 1 9 ∷ triple 9 1 30 ∷ triple 10 1 9 ∷ triple 10 1 30 ∷ triple 31 1 9 ∷ triple 31 21 33
+    ∷ triple 32 1 9 ∷ triple 32 2 34 ∷ triple 32 3 33 ∷ triple 33 1 9 ∷ triple 33 2 35 ∷ triple 33 3 4 ∷ triple 36 1 9
+    ∷ triple 36 1 31 ∷ triple 36 1 35 ∷ []) [] 15 (0 ∷ 0 ∷ 0 ∷ 0 ∷ 0 ∷ [])) ∷
+    -- no list, two rdf:first objects: no 35 1 31
+    model (triple 31 22 32 ∷ triple 32 2 33 ∷ triple 32 2 34 ∷ triple 32 3 4 ∷ triple 35 1 33 ∷ []) 65535 65535
+    (accepted (triple 9 1 9 ∷ triple 9 1 30 ∷ triple 10 1 9 ∷ triple 10 1 30 ∷ triple 31 1 9 ∷ triple 31 22 32
+    ∷ triple 32 1 9 ∷ triple 32 2 33 ∷ triple 32 2 34 ∷ triple 32 3 4 ∷ triple 35 1 9 ∷ triple 35 1 33
+    ∷ []) [] 12 (0 ∷ 0 ∷ 0 ∷ 0 ∷ 0 ∷ [])) ∷
+    -- no list, it comes back to its first cell: no 35 1 31
+    model (triple 31 22 32 ∷ triple 32 2 33 ∷ triple 32 3 34 ∷ triple 34 2 33 ∷ triple 34 3 32 ∷ triple 35 1 33 ∷ []) 65535 65535
+    (accepted (triple 9 1 9 ∷ triple 9 1 30 ∷ triple 10 1 9 ∷ triple 10 1 30 ∷ triple 31 1 9 ∷ triple 31 22 32
+    ∷ triple 32 1 9 ∷ triple 32 2 33 ∷ triple 32 3 34 ∷ triple 34 1 9 ∷ triple 34 2 33 ∷ triple 34 3 32 ∷ triple 35 1 9
+    ∷ triple 35 1 33 ∷ []) [] 14 (0 ∷ 0 ∷ 0 ∷ 0 ∷ 0 ∷ [])) ∷
+    -- no list, its second cell has no rdf:rest object: no 36 1 31, although 33 is the rdf:first object of its first cell
+    model (triple 31 22 32 ∷ triple 32 2 33 ∷ triple 32 3 34 ∷ triple 34 2 35 ∷ triple 36 1 33 ∷ []) 65535 65535
+    (accepted (triple 9 1 9 ∷ triple 9 1 30 ∷ triple 10 1 9 ∷ triple 10 1 30 ∷ triple 31 1 9 ∷ triple 31 22 32
+    ∷ triple 32 1 9 ∷ triple 32 2 33 ∷ triple 32 3 34 ∷ triple 34 1 9 ∷ triple 34 2 35 ∷ triple 36 1 9
+    ∷ triple 36 1 33 ∷ []) [] 13 (0 ∷ 0 ∷ 0 ∷ 0 ∷ 0 ∷ [])) ∷
+    -- members in order, repeats kept; from the second cell on; the last cell alone; nil has none
+    list (triple 33 2 38 ∷ triple 33 3 35 ∷ triple 34 2 36 ∷ triple 34 3 33 ∷ triple 35 2 36 ∷ triple 35 3 4 ∷ []) 34 (36 ∷ 38 ∷ 36 ∷ []) ∷
+    list (triple 33 2 38 ∷ triple 33 3 35 ∷ triple 34 2 36 ∷ triple 34 3 33 ∷ triple 35 2 36 ∷ triple 35 3 4 ∷ []) 33 (38 ∷ 36 ∷ []) ∷
+    list (triple 33 2 38 ∷ triple 33 3 35 ∷ triple 34 2 36 ∷ triple 34 3 33 ∷ triple 35 2 36 ∷ triple 35 3 4 ∷ []) 35 (36 ∷ []) ∷
+    list (triple 33 2 38 ∷ triple 33 3 35 ∷ triple 34 2 36 ∷ triple 34 3 33 ∷ triple 35 2 36 ∷ triple 35 3 4 ∷ []) 4 [] ∷
+    -- no list, two rdf:rest objects
+    list (triple 33 2 34 ∷ triple 33 3 4 ∷ triple 33 3 35 ∷ triple 35 2 36 ∷ triple 35 3 4 ∷ []) 33 [] ∷
+    -- nil with list triples: it has no members still, and a list ends there
+    list (triple 4 2 32 ∷ triple 4 3 33 ∷ triple 33 2 34 ∷ triple 33 3 4 ∷ []) 4 [] ∷
+    list (triple 4 2 32 ∷ triple 4 3 33 ∷ triple 33 2 34 ∷ triple 33 3 4 ∷ []) 33 (34 ∷ []) ∷
+    []
 
 abbrev pub cases : List Case
 cases =
@@ -77,4 +132,4 @@ cases =
     model (triple 31 21 32 ∷ triple 32 2 33 ∷ triple 32 3 4 ∷ triple 34 1 33 ∷ []) 65535 65535
     (accepted (triple 9 1 9 ∷ triple 9 1 30 ∷ triple 10 1 9 ∷ triple 10 1 30 ∷ triple 31 1 9 ∷ triple 31 21 32 ∷ triple 32 1 9
     ∷ triple 32 2 33 ∷ triple 32 3 4 ∷ triple 34 1 9 ∷ triple 34 1 31 ∷ triple 34 1 33 ∷ []) [] 12 (0 ∷ 0 ∷ 0 ∷ 0 ∷ 0 ∷ [])) ∷
-    []
+    list-cases

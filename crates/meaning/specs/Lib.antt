@@ -1,5 +1,6 @@
 pub mod Rules
-pub mod ListSets
+pub mod Lists
+pub mod Groups
 pub mod Containers
 pub mod Start
 pub mod Table

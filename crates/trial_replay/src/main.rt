@@ -21,7 +21,7 @@ const CELLS: usize = LOAD + LOAD_ROOM;
 const SAVED: usize = LOAD;
 
 // Room for the text.
-const TEXT: usize = 560000;
+const TEXT: usize = 640000;
 
 // The line that ends a list.
 const END: u32 = 7;

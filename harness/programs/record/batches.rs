@@ -100,8 +100,8 @@ const BATCHES: &[Batch] = &[
                 35 31 33",
         found: "",
     },
-    // 31 is the union of 37 and 39, 32 that of 38 and 39, and the cell of 39, 36, is the rest of both: so each member is a member of
-    // both. B has a 37, and the blank node, 44, as a 38.
+    // 31 is the union of 37 and 39, 32 that of 38 and 39, and the cell of 39, 36, is the rest of both. B has a 37, and the blank node,
+    // 44, as a 38: the one is a 31, the other a 32.
     Batch {
         name: "batch, shared tail",
         more: 5,
@@ -110,7 +110,7 @@ const BATCHES: &[Batch] = &[
         b: "40 1 37, 44 1 38",
         whole:
             "31 1 9, 31 22 33, 32 1 9, 32 22 35, 33 1 9, 33 2 37, 33 3 36, 35 1 9, 35 2 38, 35 3 36, 36 1 9, 36 2 39, 36 3 4, \
-                40 1 9, 40 1 31, 40 1 32, 40 1 37, 44 1 9, 44 1 31, 44 1 32, 44 1 38",
+                40 1 9, 40 1 31, 40 1 37, 44 1 9, 44 1 32, 44 1 38",
         found: "",
     },
 ];

@@ -1,5 +1,6 @@
 //! record FOLDER: writes calls with what each must give, as FOLDER/stdin; what program replay has to print of them, as FOLDER/stdout;
-//! and what the cases after the tables of OWL 2 Profiles show, as FOLDER/cases.md. crates/trial_replay/README.md has the format.
+//! and what the cases after the tables of OWL 2 Profiles and those with lists show, as FOLDER/cases.md. crates/trial_replay/README.md has
+//! the format.
 
 mod batches;
 mod calls;
@@ -15,7 +16,7 @@ mod text;
 use text::Text;
 
 /// The bytes that program trial_replay has room for.
-const ROOM: usize = 560_000;
+const ROOM: usize = 640_000;
 
 fn main() {
     let Some(folder) = std::env::args().nth(1) else {
@@ -23,16 +24,16 @@ fn main() {
         std::process::exit(2);
     };
     let (cases, listing) = recorded::table_cases();
-    let (random, inverse) = recorded::random_models().into_iter().partition::<Vec<_>, _>(|r| r.by_original);
+    let (inside, outside) = recorded::random_models().into_iter().partition::<Vec<_>, _>(|r| r.by_original);
     let mut text = Text::new();
     index::lists(&mut text);
     damage::lists(&mut text);
     lists::lists(&mut text);
     batches::lists(&mut text);
     let before = models::prepare(&mut text);
-    models::models(&mut text, "models after the tables of OWL 2 Profiles", &cases, &before);
-    models::models(&mut text, "random models", &random, &before);
-    models::models(&mut text, "random models, inverse functional, by the reference model", &inverse, &before);
+    models::models(&mut text, "models after the tables of OWL 2 Profiles, and lists", &cases, &before);
+    models::models(&mut text, "random models inside the domain, by the original", &inside, &before);
+    models::models(&mut text, "random models outside it, by the reference model", &outside, &before);
     let (lines, printed) = text.done();
     println!("{} bytes", lines.len());
     assert!(lines.len() <= ROOM, "the text does not fit");

@@ -1,12 +1,13 @@
-//! The answers to a fixed list of models: cases after the tables of OWL 2 Profiles, and random ones.
+//! The answers to a fixed list of models: cases after the tables of OWL 2 Profiles, cases with lists, and random ones.
 //!
-//! Every answer is the original's, and the reference model has to agree with it, but where the closure types a property inverse
-//! functional: there rule 10 is not the original's, and the answer is the reference model's. That model tells which rules a model needs.
+//! Inside the domain in which the original is the measure every answer is the original's, and the reference model has to agree with it;
+//! outside it is the reference model's. That model tells which rules a model needs, and which readings of its lists would show.
 
-use crate::tables::{Case, Conclusion, CASES, NEAR};
+use crate::tables::{Case, Conclusion, ListCase, CASES, LISTS, NEAR};
 use generate::{names, small::small, word, Model, Random, FIRST};
-use model::closure::{check, close, one_object_each, types_inverse_functional};
+use model::closure::{check, close, close_reading, in_domain};
 use model::dictionary::{is_container_property, run_terms, NAMED_NODE};
+use model::mistakes::READINGS;
 use model::names::NAMES;
 use model::{Finding, Triple};
 use std::fmt::Write;
@@ -20,9 +21,10 @@ const MOST_CLOSED: usize = 200;
 const MOST_FOUND: usize = 60;
 const MOST_BYTES: usize = 70;
 
-/// Random models, and of each thing to come up at least so many.
-const RANDOM: usize = 340;
+/// Random models inside the domain, and of each thing to come up at least so many models, inside or outside; of each reading of lists.
+const RANDOM: usize = 300;
 const QUOTA: usize = 12;
+const QUOTA_OF_A_READING: usize = 8;
 
 const RDF: &str = "http://www.w3.org/1999/02/22-rdf-syntax-ns#";
 
@@ -52,7 +54,7 @@ fn by_the_model(model: Model, without: u32) -> Recorded {
     let closure = close(&model.start(), model::STORE_LIMIT, without).expect("a small closure");
     let answer = closure.iter().copied().filter(|t| !t.contains(&0)).collect();
     let findings = check(&closure).into_iter().collect();
-    Recorded { by_original: !types_inverse_functional(&closure), model, closure, answer, findings }
+    Recorded { by_original: in_domain(&model.load, &closure), model, closure, answer, findings }
 }
 
 /// The terms of a case: its variables urn:t1 and so on, then those of the rdf namespace, then a run's.
@@ -63,12 +65,16 @@ struct Terms {
 
 impl Terms {
     fn of(case: &Case) -> Terms {
+        match case.conclusion {
+            Conclusion::Triple(t) | Conclusion::Finding(t) => Terms::in_order(&[case.premises, t]),
+            Conclusion::Zero => Terms::in_order(&[case.premises]),
+        }
+    }
+
+    /// Those of the texts, in the order in which they first appear.
+    fn in_order(texts: &[&str]) -> Terms {
         let mut terms = Terms { variables: Vec::new(), further: Vec::new() };
-        let conclusion = match case.conclusion {
-            Conclusion::Triple(t) | Conclusion::Finding(t) => t,
-            Conclusion::Zero => "",
-        };
-        for w in case.premises.split([',', ' ']).chain(conclusion.split(' ')) {
+        for w in texts.iter().flat_map(|text| text.split([',', ' '])) {
             let list = if w.starts_with('_') { &mut terms.further } else { &mut terms.variables };
             let is_term = w.starts_with('_') || (w.len() == 1 && !w.starts_with(|c: char| c.is_ascii_digit()));
             if is_term && !list.iter().any(|v| v == w) {
@@ -117,20 +123,21 @@ impl Terms {
     }
 }
 
-const HEAD: &str = "# Cases after the tables of OWL 2 Profiles, section 4.3
+const HEAD: &str = "# Cases after the tables of OWL 2 Profiles, section 4.3, and cases with lists
 
 The first models of the recording, in this order; made by harness/record. 'Rule' is the number of docs/REFERENCE.md, 6.2, or 0 for a check
 or a part of the start. A letter is a term of its own, urn:t1 and so on in the order in which they first appear. 'Alone': without this rule
 the other rules do not give the conclusion. What eq-trans gives eq-rep-o gives too, and what cax-eqc1 and cax-eqc2 give scm-eqc1 and cax-sco
-do, so no model shows those alone. 'Answer' says whose answer was recorded: the original's, with which the reference model has to agree, or
-the reference model's, where the closure types a property inverse functional (docs/REFERENCE.md, 12.1). The names of docs/REFERENCE.md,
-11.2, come last, eight to a model: a row for each has the one triple of that model's load that it is in.
+do, so no model shows those alone. 'Answer' says whose answer was recorded: inside the domain of docs/REFERENCE.md, 12.1, the original's,
+with which the reference model has to agree; outside, the reference model's. Models with lists come after the tables and the near misses,
+with a row for each triple that must be in the answer and each that must not. The names of docs/REFERENCE.md, 11.2, come last, eight to a
+model: a row for each has the one triple of that model's load that it is in.
 
 | Model | Name | Rule | Load | Conclusion | Holds | Alone | Answer |
 |---|---|---|---|---|---|---|---|
 ";
 
-/// Each rule with all premises, and once without each of them; then the near misses.
+/// Each rule with all premises, and once without each of them; then the near misses, the cases with lists, and the names.
 pub fn table_cases() -> (Vec<Recorded>, String) {
     let (mut all, mut listing) = (Vec::new(), HEAD.to_string());
     for case in CASES {
@@ -162,8 +169,24 @@ pub fn table_cases() -> (Vec<Recorded>, String) {
         list(&mut listing, all.len(), case, &premises, &recorded, false, false);
         all.push(recorded);
     }
+    LISTS.iter().for_each(|case| list_case(case, &mut all, &mut listing));
     names_as_predicates(&mut all, &mut listing);
     (all, listing)
+}
+
+fn list_case(case: &ListCase, all: &mut Vec<Recorded>, listing: &mut String) {
+    let rows = case.there.iter().map(|row| (row, true)).chain(case.missing.iter().map(|row| (row, false)));
+    let texts: Vec<&str> = [case.premises].into_iter().chain(rows.clone().map(|((_, triple), _)| *triple)).collect();
+    let terms = Terms::in_order(&texts);
+    let recorded = record(terms.model(&case.premises.split(", ").collect::<Vec<_>>()));
+    for (&(rule, triple), holds) in rows {
+        assert_eq!(recorded.answer.contains(&terms.triple(triple)), holds, "{}: {triple}", case.name);
+        let without = by_the_model(recorded.model.clone(), 1 << rule);
+        let alone = holds && !without.answer.contains(&terms.triple(triple));
+        assert_eq!(alone, holds, "{}: another rule gives {triple} too", case.name);
+        row(listing, all.len(), (case.name, rule), case.premises, triple, &recorded, [holds, alone]);
+    }
+    all.push(recorded);
 }
 
 /// The names of docs/REFERENCE.md, 11.2, eight to a model, each the predicate of a triple with an object of its own: x member that object
@@ -208,49 +231,52 @@ fn row(text: &mut String, at: usize, of: (&str, u32), load: &str, gives: &str, r
 }
 
 /// What is counted: the rules whose absence shows in the answer, zero triples that carry a real one (0), each check, container
-/// properties, and lists with a shared tail.
-const THINGS: usize = 36;
+/// properties, and the wrong readings of lists that show.
+const THINGS: usize = READING + READINGS.len();
+const READING: usize = 35;
 
 fn things(model: &Model, closure: &[Triple]) -> Vec<usize> {
+    let (start, most) = (model.start(), model::STORE_LIMIT);
     let answer = |closure: &[Triple]| closure.iter().copied().filter(|t| !t.contains(&0)).collect::<Vec<_>>();
     let whole = answer(closure);
-    let shows = |without: u32| answer(&close(&model.start(), model::STORE_LIMIT, without).expect("fewer triples")) != whole;
-    let mut things: Vec<usize> = (0..29).filter(|k| shows(1 << k)).collect();
+    let shows = |other: Option<Vec<Triple>>| other.is_none_or(|other| answer(&other) != whole);
+    let mut things: Vec<usize> = (0..29).filter(|k| shows(close(&start, most, 1 << k))).collect();
     things.extend(check(closure).iter().map(|f| 28 + f[0] as usize));
     let is_container = |p: u32| p >= FIRST && is_container_property(&model.terms[(p - FIRST) as usize]);
     if model.load.iter().any(|t| is_container(t[1])) {
         things.push(34);
     }
-    let tail = |t: &&Triple| t[1] == word("rest") && t[2] != word("nil");
-    let shared = |t: &Triple| model.load.iter().filter(tail).any(|u| u[2] == t[2] && u[0] != t[0]);
-    if model.load.iter().filter(tail).any(shared) && shows(0b111 << 21) {
-        things.push(35);
-    }
+    things.extend((0..READINGS.len()).filter(|k| shows(close_reading(&start, most, 0, READINGS[*k].1))).map(|k| READING + k));
     things
 }
 
-/// Random models inside the domain or with an inverse functional property: first those that bring up something still wanted, then any.
+/// First models that bring up something still wanted, then any inside the domain. Outside it rule 10 and readings of lists are wanted, as
+/// all else comes up inside.
 pub fn random_models() -> Vec<Recorded> {
-    let (mut counts, mut all) = ([0; THINGS], Vec::<Recorded>::new());
+    let (mut counts, mut all, mut inside) = ([0; THINGS], Vec::<Recorded>::new(), 0);
     // Rules 8 and 17 never show (see cases.md).
-    let wanted = |counts: &[usize; THINGS], k: usize| counts[k] < QUOTA && k != 8 && k != 17;
+    let quota = |k: usize| if k < READING { QUOTA } else { QUOTA_OF_A_READING };
+    let wanted = |counts: &[usize; THINGS], k: usize| counts[k] < quota(k) && k != 8 && k != 17;
+    let of_the_model = |k: usize| k == 10 || k >= READING;
     for k in 0.. {
         let still_wanted = (0..THINGS).any(|k| wanted(&counts, k));
-        if all.len() >= RANDOM && !still_wanted {
+        if inside >= RANDOM && !still_wanted {
             break;
         }
         let model = plain_terms_first(small(&mut Random::item(3, k)));
         let Some(closure) = close(&model.start(), MOST_CLOSED, 0) else { continue };
         let short = model.terms.iter().all(|(_, bytes)| bytes.len() <= MOST_BYTES);
-        let fits = short && model.load.len() <= MOST_LOAD && check(&closure).len() <= MOST_FOUND;
-        if !fits || !one_object_each(&model.load, &closure) {
+        if !short || model.load.len() > MOST_LOAD || check(&closure).len() > MOST_FOUND {
             continue;
         }
         let mut brought = things(&model, &closure);
         brought.dedup();
-        if !still_wanted || brought.iter().any(|k| wanted(&counts, *k)) {
+        let by_original = in_domain(&model.load, &closure);
+        let brings_up = |k: &usize| wanted(&counts, *k) && (by_original || of_the_model(*k));
+        if (!still_wanted && by_original) || brought.iter().any(brings_up) {
             brought.iter().for_each(|k| counts[*k] += 1);
             all.push(record(model));
+            inside += usize::from(by_original);
         }
     }
     println!("random models by what they bring up: {counts:?}");

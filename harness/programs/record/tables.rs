@@ -1,6 +1,7 @@
 //! Cases after the tables of OWL 2 Profiles, section 4.3: for each rule of docs/REFERENCE.md, 6.2, its premises and its conclusion.
 //!
-//! One-letter words are terms, each variable its own; `container`, `almost` and so on are terms of the rdf namespace.
+//! One-letter words are terms, each variable its own; words with `_` in front are terms of the rdf namespace. Lists have cases of their
+//! own, docs/REFERENCE.md, 5.
 
 /// What a case must show.
 pub enum Conclusion {
@@ -106,4 +107,194 @@ pub const NEAR: &[Case] = &[
     case("eq-ref", 0, "s p o", Triple("s sameAs s")),
     case("prp-ifp, different objects", 0, "p type InverseFunctionalProperty, x p y, z p w", Triple("x sameAs z")),
     case("prp-ifp, no else zero", 0, "p type InverseFunctionalProperty, x p y, z p w", Zero),
+];
+
+/// A model with lists: triples that must be in the answer, and triples that must not, each with the rule that gives it, or would.
+pub struct ListCase {
+    pub name: &'static str,
+    pub premises: &'static str,
+    pub there: &'static [(u32, &'static str)],
+    pub missing: &'static [(u32, &'static str)],
+}
+
+const fn list(
+    name: &'static str,
+    premises: &'static str,
+    there: &'static [(u32, &'static str)],
+    missing: &'static [(u32, &'static str)],
+) -> ListCase {
+    ListCase { name, premises, there, missing }
+}
+
+/// What an improper list with an rdf:first object d must not give for the intersection c and the union b.
+const NONE: &[(u32, &str)] = &[(21, "x type c"), (23, "x type b"), (22, "y type d")];
+
+pub const LISTS: &[ListCase] = &[
+    // Shared cells
+    list(
+        "two intersections with one tail, cls-int1",
+        "c intersectionOf l, l first d, l rest n, b intersectionOf m, m first e, m rest n, n first f, n rest nil, \
+         x type d, x type f, y type e, y type f",
+        &[(21, "x type c"), (21, "y type b")],
+        &[(21, "x type b"), (21, "y type c")],
+    ),
+    list(
+        "two intersections with one tail, cls-int2",
+        "c intersectionOf l, l first d, l rest n, b intersectionOf m, m first e, m rest n, n first f, n rest nil, x type c, y type b",
+        &[(22, "x type d"), (22, "x type f"), (22, "y type e"), (22, "y type f")],
+        &[(22, "x type e"), (22, "y type d")],
+    ),
+    list(
+        "two unions with one tail",
+        "c unionOf l, l first d, l rest n, b unionOf m, m first e, m rest n, n first f, n rest nil, x type d, y type e, z type f",
+        &[(23, "x type c"), (23, "y type b"), (23, "z type c"), (23, "z type b")],
+        &[(23, "x type b"), (23, "y type c")],
+    ),
+    list(
+        "named at the second cell",
+        "c intersectionOf m, b unionOf m, l first d, l rest m, m first e, m rest nil, x type e, y type d, z type c",
+        &[(21, "x type c"), (23, "x type b"), (22, "z type e")],
+        &[(23, "y type b"), (22, "z type d")],
+    ),
+    list(
+        "one node, a cell of two lists",
+        "c unionOf l, b intersectionOf m, l first d, l rest m, m first e, m rest nil, x type e, y type d, z type b",
+        &[(23, "x type c"), (21, "x type b"), (23, "y type c"), (22, "z type e")],
+        &[(21, "y type b"), (22, "z type d")],
+    ),
+    list(
+        "an improper cell before the one named",
+        "c intersectionOf m, b unionOf m, l first d, l first e, l rest m, m first f, m rest nil, x type f, y type d, z type c",
+        &[(21, "x type c"), (23, "x type b"), (22, "z type f")],
+        &[(23, "y type b"), (22, "z type d")],
+    ),
+    // Improper lists
+    list(
+        "two rdf:first",
+        "c intersectionOf l, b unionOf l, l first d, l first e, l rest nil, x type d, x type e, y type c",
+        &[],
+        NONE,
+    ),
+    list(
+        "two rdf:first, at the second cell",
+        "c intersectionOf l, b unionOf l, l first d, l rest m, m first e, m first f, m rest nil, \
+         x type d, x type e, x type f, y type c",
+        &[],
+        NONE,
+    ),
+    list(
+        "two rdf:rest",
+        "c intersectionOf l, b unionOf l, l first d, l rest m, l rest n, m first e, m rest nil, n first f, n rest nil, \
+         x type d, x type e, x type f, y type c",
+        &[],
+        NONE,
+    ),
+    list(
+        "two rdf:rest, one of them nil",
+        "c intersectionOf l, b unionOf l, l first d, l rest m, l rest nil, m first e, m rest nil, x type d, x type e, y type c",
+        &[],
+        NONE,
+    ),
+    list(
+        "two rdf:rest at the second cell, nil and the first",
+        "c intersectionOf l, b unionOf l, l first d, l rest m, m first e, m rest l, m rest nil, x type d, x type e, y type c",
+        &[],
+        NONE,
+    ),
+    list("no rdf:first", "c intersectionOf l, b unionOf l, l rest m, m first d, m rest nil, x type d, y type c", &[], NONE),
+    list(
+        "no rdf:first, at the second cell",
+        "c intersectionOf l, b unionOf l, l first d, l rest m, m rest nil, x type d, y type c",
+        &[],
+        NONE,
+    ),
+    list("no rdf:rest", "c intersectionOf l, b unionOf l, l first d, x type d, y type c", &[], NONE),
+    list(
+        "no rdf:rest, at the second cell",
+        "c intersectionOf l, b unionOf l, l first d, l rest m, m first e, x type d, x type e, y type c",
+        &[],
+        NONE,
+    ),
+    list("no second cell", "c intersectionOf l, b unionOf l, l first d, l rest m, x type d, y type c", &[], NONE),
+    list("a ring of one cell", "c intersectionOf l, b unionOf l, l first d, l rest l, x type d, y type c", &[], NONE),
+    list(
+        "a ring, back to the first cell",
+        "c intersectionOf l, b unionOf l, l first d, l rest m, m first e, m rest l, x type d, x type e, y type c",
+        &[],
+        NONE,
+    ),
+    list(
+        "a ring behind the first cell",
+        "c intersectionOf l, b unionOf l, l first d, l rest m, m first e, m rest n, n first f, n rest m, \
+         x type d, x type e, x type f, y type c",
+        &[],
+        NONE,
+    ),
+    // Nil with list triples
+    list(
+        "nil at the end, with list triples",
+        "c intersectionOf l, b unionOf l, l first d, l rest nil, nil first e, nil rest m, m first f, m rest nil, \
+         x type d, y type e, z type f",
+        &[(21, "x type c"), (23, "x type b")],
+        &[(23, "y type b"), (23, "z type b")],
+    ),
+    list(
+        "nil named, a ring of one cell",
+        "c intersectionOf nil, b unionOf nil, nil first d, nil rest nil, x type d, y type c",
+        &[],
+        NONE,
+    ),
+    list(
+        "nil named, with a rest",
+        "b unionOf nil, nil first d, nil rest m, m first e, m rest nil, x type d, x type e",
+        &[],
+        &[(23, "x type b")],
+    ),
+    // Repeats
+    list(
+        "triples repeated",
+        "c intersectionOf l, c intersectionOf l, b unionOf l, l first d, l first d, l rest m, l rest m, m first e, m first e, \
+         m rest nil, m rest nil, x type d, x type e, y type d, z type c",
+        &[(21, "x type c"), (23, "y type b"), (22, "z type d"), (22, "z type e")],
+        &[(21, "y type c")],
+    ),
+    list(
+        "a member repeated",
+        "c intersectionOf l, l first d, l rest m, m first d, m rest nil, x type d, y type c",
+        &[(21, "x type c"), (22, "y type d")],
+        &[],
+    ),
+    // The load's list triples, and the closure's
+    list("rdf:first in the closure alone", "p subPropertyOf first, b unionOf l, l p d, l rest nil, x type d", &[], &[(23, "x type b")]),
+    list(
+        "a second rdf:first in the closure alone",
+        "p subPropertyOf first, b unionOf l, l first d, l p e, l rest nil, x type d, y type e",
+        &[(23, "x type b")],
+        &[(23, "y type b")],
+    ),
+    list("rdf:rest in the closure alone", "p subPropertyOf rest, b unionOf l, l first d, l p nil, x type d", &[], &[(23, "x type b")]),
+    list(
+        "a second rdf:rest in the closure alone",
+        "p subPropertyOf rest, b unionOf l, l first d, l rest nil, l p m, m first e, m rest nil, x type d, y type e",
+        &[(23, "x type b")],
+        &[(23, "y type b")],
+    ),
+    list(
+        "a cell equal to another node",
+        "b unionOf l, l first d, l rest m, m sameAs n, n first e, n rest nil, x type d, y type e",
+        &[],
+        &[(23, "x type b"), (23, "y type b")],
+    ),
+    list(
+        "unionOf in the closure alone",
+        "p subPropertyOf unionOf, b p l, l first d, l rest nil, x type d",
+        &[(23, "x type b")],
+        &[],
+    ),
+    list(
+        "named by an equal node",
+        "b unionOf k, k sameAs l, l first d, l rest nil, x type d",
+        &[(23, "x type b")],
+        &[],
+    ),
 ];

@@ -1,10 +1,10 @@
 -- `driver_load::close_load` meets its contract. Assumes nothing.
 use mathlib.Core.Path.{refl, sym, _∙_}
-use Prim.Native.Nat.{ℕ, _*_}
+use Prim.Native.Nat.{ℕ}
 use lib.ListN.{length-replicate}
-use Rattle.store_rows.specs.Chains.{keys}
+use Rattle.store_rows.specs.Layout.{roles-length}
 use Rattle.driver_load.proofs.Loading.{no-rows, start-full, closes-load}
-use Rattle.driver_load.proofs.Terming.{loadable, started, listable, closable}
+use Rattle.driver_load.proofs.Terming.{loadable, started, listable, load-lists, closable}
 use borrow.Author.Needs.{needs}
 use Rattle.driver_load.proofs.close_load.Statement.{statement}
 use Rattle.driver_load.proofs.close_load.Tie as tie
@@ -17,7 +17,7 @@ abbrev after-start-rows : tie.Else1 → tie.After-start-rows
 after-start-rows z = z .before .before .before .before .before
 
 abbrev at-if1 : tie.After-new → tie.Else1
-at-if1 z = z .before .before .before .before .before
+at-if1 z = z .before .before .before .before
 
 abbrev after-new : tie.After-close → tie.After-new
 after-new z = z .before .before .before .before .before .before .before .before .before .before .before .before
@@ -48,15 +48,14 @@ cast-new c = search needs
 
 new-requires : tie.Need-new-requires
 new-requires c κs =
-    let a = c .before .before .before .before .before .before .before .before .before in
-    let z = at-start a in
-    listable (z .pre .0) (z .pre .1) (a .start-rows .ensures) refl (z .pre .2)
+    let z = at-start (c .before .before .before .before .before .before .before .before) in
+    listable (z .pre .0) (z .pre .1) refl (z .pre .2)
 
 table-requires : tie.Need-table-requires
 table-requires c κs = tt
 
 slice-aggregate-close : tie.Need-slice-aggregate-close
-slice-aggregate-close c = sym (length-replicate {A = ℕ} (2 * keys) 0)
+slice-aggregate-close c = sym (length-replicate {A = ℕ} roles-length 0)
 
 close-requires : tie.Need-close-requires
 close-requires c κs =
@@ -65,7 +64,7 @@ close-requires c κs =
     let a = after-start-rows (at-if1 n) in
     let z = at-start a in
     closable (z .pre .0) (z .pre .1) (a .start-rows .ensures) refl (z .pre .2) (after-table .table .ensures) (n .new .ensures)
-    (n .new .kept .1 .0) (length-replicate {A = ℕ} (2 * keys) 0)
+    (length-replicate {A = ℕ} roles-length 0)
 
 same-length-3 : tie.Need-same-length-3
 same-length-3 c =
@@ -89,10 +88,12 @@ same-length-6 c =
 returns-2 : tie.Need-returns-2
 returns-2 c =
     let k = c .before .before .before .before .before .before .before in
-    let e = at-if1 (after-new k) in
+    let n = after-new k in
+    let e = at-if1 n in
     let a = after-start-rows e in
     let z = at-start a in
-    closes-load _ _ (started (z .pre .0) (z .pre .1) (a .start-rows .ensures)) (e .if1 .left) (k .close .ensures)
+    closes-load _ _ (started (z .pre .0) (z .pre .1) (a .start-rows .ensures)) (e .if1 .left)
+    (load-lists (z .pre .0) (z .pre .1) (n .new .ensures)) (k .close .ensures)
 
 pub close-load-spec : {M : Type 1} → statement M
 close-load-spec =

@@ -1,9 +1,9 @@
 -- `driver_load::run_load` meets its contract. Assumes nothing.
 use mathlib.Core.Path.{sym, _∙_}
-use Prim.Native.Nat.{ℕ, _*_}
+use Prim.Native.Nat.{ℕ}
 use native.Mathlib.Omega.{arith}
 use lib.ListN.{length-replicate}
-use Rattle.store_rows.specs.Chains.{keys, block}
+use Rattle.store_rows.specs.Layout.{hash-length, index-length}
 use Rattle.driver_refusals.specs.Lent.{Lent, lent}
 use Rattle.common.proofs.Filling.{clear-all}
 use Rattle.driver_load.proofs.Answering.{arrays-unused, zeros-again, outcome-answered, outcome-refused}
@@ -28,10 +28,10 @@ abbrev lent₀ : tie.Start → Lent
 lent₀ z = lent (z .args .load .now) (z .args .store .now) (z .args .findings .now) (z .args .work .now)
 
 slice-aggregate-answer-load : tie.Need-slice-aggregate-answer-load
-slice-aggregate-answer-load c = sym (length-replicate {A = ℕ} (2 * keys) 0)
+slice-aggregate-answer-load c = sym (length-replicate {A = ℕ} hash-length 0)
 
 slice-aggregate-answer-load-2 : tie.Need-slice-aggregate-answer-load-2
-slice-aggregate-answer-load-2 c = sym (length-replicate {A = ℕ} (6 * block) 0)
+slice-aggregate-answer-load-2 c = sym (length-replicate {A = ℕ} index-length 0)
 
 answer-load-requires : tie.Need-answer-load-requires
 answer-load-requires c κs =

@@ -1,4 +1,0 @@
-pub mod Places
-pub mod Forest
-pub mod Groups
-pub mod Lists
