@@ -4,22 +4,21 @@
 //!   rule K      rule K is left out                 zero        triples with an id 0 are dropped early
 //!   check K     check K reports nothing            dirty       store and findings are not cleared after a refusal 8 or 9
 //!   refusal K   number K is answered as K + 1      counter     a put counts a byte too many
-//!   list NAME   lists are read as model::mistakes has it by that name
+//!   list NAME   lists, nil among them, are read as model::mistakes has it by that name
 
 use model::bytes::{self, Lent};
-use model::lists::{members, Reading};
-use model::mistakes::READINGS;
+use model::closure::Mistake;
+use model::mistakes;
 use std::slice::{from_raw_parts, from_raw_parts_mut};
 use std::sync::OnceLock;
 
 #[derive(Default)]
 struct Fault {
-    without: u32,
+    mistake: Mistake,
     check: u32,
     refusal: u32,
     dirty: bool,
     counter: bool,
-    reading: Option<Reading>,
 }
 
 fn fault() -> &'static Fault {
@@ -29,20 +28,24 @@ fn fault() -> &'static Fault {
         let number = || text.split(' ').nth(1).and_then(|k| k.parse::<u32>().ok()).expect("FAULT has a number");
         match text.split(' ').next().unwrap_or("") {
             "" => Fault::default(),
-            "rule" => Fault { without: 1 << number(), ..Fault::default() },
-            "zero" => Fault { without: 1, ..Fault::default() },
+            "rule" => leaving_out(1 << number()),
+            "zero" => leaving_out(1),
             "check" => Fault { check: number(), ..Fault::default() },
             "refusal" => Fault { refusal: number(), ..Fault::default() },
             "dirty" => Fault { dirty: true, ..Fault::default() },
             "counter" => Fault { counter: true, ..Fault::default() },
-            "list" => Fault { reading: Some(reading(text.split(' ').nth(1).unwrap_or(""))), ..Fault::default() },
+            "list" => Fault { mistake: named(text.split(' ').nth(1).unwrap_or("")), ..Fault::default() },
             _ => panic!("no fault {text}"),
         }
     })
 }
 
-fn reading(name: &str) -> Reading {
-    READINGS.iter().find(|(n, _)| *n == name).unwrap_or_else(|| panic!("no reading {name}")).1
+fn leaving_out(without: u32) -> Fault {
+    Fault { mistake: Mistake { without, ..Mistake::default() }, ..Fault::default() }
+}
+
+fn named(name: &str) -> Mistake {
+    mistakes::all().find(|(n, _)| *n == name).unwrap_or_else(|| panic!("no mistake {name}")).1
 }
 
 fn answered(refusal: u32) -> u32 {
@@ -147,7 +150,7 @@ pub unsafe extern "C" fn tablestork_run(
     };
     let before = fault().dirty.then(|| lent.store.to_vec());
     let refusal;
-    (refusal, *triples, *counts) = bytes::run_mistaken(lent, fault().without, fault().reading.unwrap_or(members));
+    (refusal, *triples, *counts) = bytes::run_mistaken(lent, fault().mistake);
     if let (Some(before), 8..) = (before, refusal) {
         from_raw_parts_mut(store, store_len).copy_from_slice(&before);
     }

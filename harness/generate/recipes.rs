@@ -106,7 +106,8 @@ fn spoil(b: &mut Builder, recipe: &Recipe, components: &[u32], r: &mut Random) {
     }
 }
 
-/// A list of so many cells, some of them named; at times its last cell goes back to one of them, and nil has list triples and is named.
+/// A list of so many cells, some of them named; at times its last cell goes back to one of them, nil has list triples and is named, and an
+/// intersection of nil has every subject.
 fn long_list(b: &mut Builder, long: usize, components: &[u32], r: &mut Random) {
     let members = several(components, long.max(2), r);
     let cells = b.cells(&members, word("nil"));
@@ -125,6 +126,10 @@ fn long_list(b: &mut Builder, long: usize, components: &[u32], r: &mut Random) {
         b.add(word("nil"), "rest", r.pick(&cells));
         let class = b.fresh();
         b.add(class, "unionOf", word("nil"));
+    }
+    if r.percent(50) {
+        let class = b.fresh();
+        b.add(class, "intersectionOf", word("nil"));
     }
 }
 

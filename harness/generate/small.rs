@@ -57,7 +57,7 @@ const PREMISES: &[&str] = &[
 const OWN: RangeInclusive<char> = 'k'..='o';
 
 /// Proper lists, named at their first cell: of one cell, of two, of three, with a member or a triple twice, named in the closure alone,
-/// and a node that names no list.
+/// a node that names no list, and nil in a union.
 const LISTS: &[&str] = &[
     "c intersectionOf l, l first d, l rest nil, x type d",
     "c intersectionOf l, l first d, l rest m, m first e, m rest nil, x type d, x type e",
@@ -74,10 +74,12 @@ const LISTS: &[&str] = &[
     "o subPropertyOf unionOf, c o l, l first d, l rest m, m first e, m rest nil, x type e",
     "o subPropertyOf intersectionOf, c o l, l first d, l rest nil, x type c",
     "c intersectionOf k, x type c, x type k",
+    "c unionOf nil, x type c, x p y",
 ];
 
 /// Lists that the original reads otherwise, or may: with shared tails, named at a later cell; with two rdf:first or rdf:rest objects or
-/// none, at the first cell and behind it; in a ring; with list triples of nil; with list triples in the closure alone.
+/// none, at the first cell and behind it; in a ring; with list triples of nil; with list triples in the closure alone; and nil in an
+/// intersection, in the load and in the closure alone.
 const ODD_LISTS: &[&str] = &[
     "c intersectionOf l, l first d, l rest m, k first e, k rest m, m first f, m rest nil, x type c",
     "c intersectionOf l, b intersectionOf k, l first d, l rest m, k first e, k rest m, m first f, m rest nil, x type d, x type f",
@@ -112,6 +114,7 @@ const ODD_LISTS: &[&str] = &[
     "c unionOf nil, nil first d, nil rest nil, x type d",
     "c unionOf nil, nil first d, nil rest m, m first e, m rest nil, x type e",
     "c intersectionOf nil, nil first d, nil rest nil, x type c",
+    "c intersectionOf nil, nil first d, nil rest m, m first e, m rest nil, x p y",
     "c unionOf l, l first d, l rest nil, nil first e, nil rest nil, x type d, y type e",
     "c unionOf l, l first d, l rest m, m first e, m rest nil, nil rest m, x type d, y type e",
     "c unionOf l, l first d, l rest nil, nil first e, x type d",
@@ -121,6 +124,12 @@ const ODD_LISTS: &[&str] = &[
     "o subPropertyOf first, c unionOf l, l first d, l o e, l rest nil, x type d",
     "o subPropertyOf rest, c unionOf l, l first d, l o nil, x type d",
     "o subPropertyOf rest, c intersectionOf l, l first d, l rest nil, l o m, m first e, m rest nil, x type c",
+    "c intersectionOf nil, x p y",
+    "c intersectionOf nil, c subClassOf d, x p y",
+    "c intersectionOf nil, b intersectionOf l, l first c, l rest nil, x p y",
+    "c intersectionOf nil, c disjointWith d, x type d",
+    "c intersectionOf k, k sameAs nil, x p y",
+    "o subPropertyOf intersectionOf, c o nil, x p y",
 ];
 
 /// What makes 0 0 0, makes 0 one of the terms, or makes it stand for a property or class.
@@ -159,6 +168,8 @@ const CARRIED: &[&str] = &[
     "r someValuesFrom c, r onProperty p, x p y, Thing hasValue q, Thing onProperty subPropertyOf, q domain d, d hasValue v, d onProperty s, s range e",
     "r someValuesFrom c, r onProperty p, x p y, Thing hasValue q, Thing onProperty subPropertyOf, q range d, d hasValue v, d onProperty s, s inverseOf t",
     "r hasValue v, r onProperty p, x p y, Thing hasValue q, Thing onProperty subPropertyOf, q domain d, d hasValue w, d onProperty s, w type TransitiveProperty",
+    "r someValuesFrom r, r onProperty type, c intersectionOf nil, c hasValue q, c onProperty subPropertyOf, q domain d, q range e, \
+     d hasValue v, d onProperty q",
 ];
 
 /// A small model whose closure has at most 1,000 triples.

@@ -3,9 +3,9 @@
 use crate::large::{benchmark, large, KINDS};
 use crate::small::small;
 use crate::{word, Model, Random, FIRST};
-use model::closure::{check, close, close_reading, in_domain};
+use model::closure::{check, close, close_mistaken, in_domain, Mistake};
 use model::dictionary::{is_container_property, Term};
-use model::mistakes::READINGS;
+use model::mistakes::{self, OF_NIL, READINGS};
 use model::{Triple, LOAD_LIMIT, STORE_LIMIT};
 
 const MODELS: u64 = 1_500;
@@ -56,25 +56,27 @@ fn answer(closure: &[Triple]) -> Vec<Triple> {
     closure.iter().copied().filter(|t| !t.contains(&0)).collect()
 }
 
-/// Counts, for each wrong reading of lists, the models whose answer it changes: inside the original's domain, and outside it.
+/// Counts, for each wrong reading of lists, the models whose answer it changes, or the store that just suffices: inside the original's
+/// domain, and outside it.
 fn by_reading(models: impl Iterator<Item = Model>) -> Vec<[u32; 2]> {
-    let mut counts = vec![[0; 2]; READINGS.len()];
+    let mut counts = vec![[0; 2]; mistakes::all().count()];
     for model in models {
         let start = model.start();
         let Some(closure) = close(&start, STORE_LIMIT, 0) else { continue };
         let outside = usize::from(!in_domain(&model.load, &closure));
-        for ((_, reading), count) in READINGS.iter().zip(&mut counts) {
-            let wrong = close_reading(&start, STORE_LIMIT, 0, *reading);
-            count[outside] += u32::from(wrong.is_none_or(|wrong| answer(&wrong) != answer(&closure)));
+        for ((_, mistake), count) in mistakes::all().zip(&mut counts) {
+            let wrong = close_mistaken(&start, STORE_LIMIT, mistake);
+            count[outside] +=
+                u32::from(wrong.is_none_or(|wrong| wrong.len() != closure.len() || answer(&wrong) != answer(&closure)));
         }
     }
-    for ((name, _), [inside, outside]) in READINGS.iter().zip(&counts) {
+    for ((name, _), [inside, outside]) in mistakes::all().zip(&counts) {
         println!("{name}: shows in {inside} models inside the domain, {outside} outside");
     }
     counts
 }
 
-/// Every shape of list comes up, and decides an answer: another reading of it gives another answer.
+/// Every shape of list comes up, and decides: another reading of it gives another answer, or fits another store.
 #[test]
 fn small_models_bring_up_all_readings_of_lists() {
     let counts = by_reading((0..2 * MODELS).map(|k| small(&mut Random::item(5, k))));
@@ -107,11 +109,13 @@ fn small_models_bring_up_list_triples_of_the_closure() {
 #[test]
 fn inside_the_domain_the_original_reads_lists_alike() {
     let pooled = READINGS.iter().find(|(name, _)| *name == "pooled").expect("the original's reading").1;
+    let none = OF_NIL.iter().find(|(name, _)| *name == "nil-admits-none").expect("the original's reading").1;
+    let original = Mistake { reading: pooled, of_nil: none, ..Mistake::default() };
     for model in (0..MODELS).map(|k| small(&mut Random::item(6, k))) {
         let start = model.start();
         let closure = close(&start, STORE_LIMIT, 0).expect("a small closure");
         if in_domain(&model.load, &closure) {
-            assert_eq!(close_reading(&start, STORE_LIMIT, 0, pooled), Some(closure), "{}", model.text());
+            assert_eq!(close_mistaken(&start, STORE_LIMIT, original), Some(closure), "{}", model.text());
         }
     }
 }

@@ -2,7 +2,7 @@
 //! 4 is 2 for a load, 1 for a table after the start, else 4, each at its place in the order.
 
 use crate::calls::{self, Buffers, Dictionary};
-use crate::lists::{members, Reading};
+use crate::closure::Mistake;
 use crate::*;
 
 fn numbers(bytes: &[u8]) -> Vec<u32> {
@@ -63,11 +63,11 @@ pub struct Lent<'a> {
 
 /// Refusal, triple count, and the count of each check.
 pub fn run(lent: Lent) -> (u32, u32, [u32; 5]) {
-    run_mistaken(lent, 0, members)
+    run_mistaken(lent, Mistake::default())
 }
 
-/// The same with some rules left out and another reading of lists, as `close_reading` takes them.
-pub fn run_mistaken(lent: Lent, without: u32, reading: Reading) -> (u32, u32, [u32; 5]) {
+/// The same with a mistake.
+pub fn run_mistaken(lent: Lent, mistake: Mistake) -> (u32, u32, [u32; 5]) {
     if lent.table.len() % 4 != 0 {
         return (BROKEN_DICTIONARY, 0, [0; 5]);
     }
@@ -85,7 +85,7 @@ pub fn run_mistaken(lent: Lent, without: u32, reading: Reading) -> (u32, u32, [u
     }
     let d = Dictionary { table: &mut table, arena: lent.arena, terms: lent.terms, used: lent.used };
     let b = Buffers { store: &mut store, findings: &mut findings, work: &mut work };
-    let result = calls::run_mistaken(d, &load, b, without, reading);
+    let result = calls::run_mistaken(d, &load, b, mistake);
     write(lent.table, &table);
     write(lent.store, &store);
     write(lent.findings, &findings);

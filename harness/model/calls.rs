@@ -1,8 +1,7 @@
 //! The four calls on numbers, docs/REFERENCE.md, 3: result, refusals in their order, and every buffer after the call.
 
-use crate::closure::{check, close_reading};
+use crate::closure::{check, close_mistaken, Mistake};
 use crate::dictionary::{self as dict, Term};
-use crate::lists::{members, Reading};
 use crate::*;
 
 /// A table, an arena and the two counters of `put`.
@@ -90,11 +89,11 @@ pub struct Buffers<'a> {
 
 /// Refusal, triple count, and the count of each check.
 pub fn run(d: Dictionary, load: &[u32], b: Buffers) -> (u32, u32, [u32; 5]) {
-    run_mistaken(d, load, b, 0, members)
+    run_mistaken(d, load, b, Mistake::default())
 }
 
-/// The same with some rules left out and another reading of lists, as `close_reading` takes them.
-pub fn run_mistaken(mut d: Dictionary, load: &[u32], b: Buffers, without: u32, reading: Reading) -> (u32, u32, [u32; 5]) {
+/// The same with a mistake.
+pub fn run_mistaken(mut d: Dictionary, load: &[u32], b: Buffers, mistake: Mistake) -> (u32, u32, [u32; 5]) {
     let terms = match before_closing(&d, load, &b) {
         Ok(terms) => terms,
         Err(refusal) => return (refusal, 0, [0; 5]),
@@ -104,7 +103,7 @@ pub fn run_mistaken(mut d: Dictionary, load: &[u32], b: Buffers, without: u32, r
     b.findings.fill(0);
     b.work.fill(0);
     let load: Vec<Triple> = load.chunks(3).map(|t| [t[0], t[1], t[2]]).collect();
-    let Some(closure) = close_reading(&starting_triples(&terms, &load), b.store.len() / 3, without, reading) else {
+    let Some(closure) = close_mistaken(&starting_triples(&terms, &load), b.store.len() / 3, mistake) else {
         return (STORE_FULL, 0, [0; 5]);
     };
     let found = check(&closure);

@@ -102,9 +102,8 @@ pub struct Lists {
 }
 
 impl Lists {
-    /// From the triples that the closure starts from.
-    pub fn new(start: &[Triple], reading: Reading) -> Lists {
-        Lists { cells: Cells::new(start), reading, named: HashMap::default(), with_member: HashMap::default() }
+    pub fn new(cells: Cells, reading: Reading) -> Lists {
+        Lists { cells, reading, named: HashMap::default(), with_member: HashMap::default() }
     }
 
     /// Names a node; answers its list's members.

@@ -1,6 +1,7 @@
-//! Wrong readings of lists. Put in the place of the right one they show what a mistake would change: whether random models bring it up,
-//! and whether compare and damage notice it.
+//! Wrong readings of lists, nil among them. Put in the place of the right one they show what a mistake would change: whether random models
+//! bring it up, and whether compare and damage notice it.
 
+use crate::closure::{of_nil, Mistake, OfNil};
 use crate::lists::{members, one, Cells, Reading, NIL};
 use std::collections::{BTreeSet, HashSet};
 
@@ -28,6 +29,23 @@ pub const READINGS: &[(&str, Reading)] = &[
     // Nil is a cell where it is named.
     ("nil-named", |cells, named| walk(cells, named, Lax::NilNamed)),
 ];
+
+pub const OF_NIL: &[(&str, OfNil)] = &[
+    // As in the original.
+    ("nil-admits-none", |_| &[]),
+    ("nil-admits-objects", |_| &[("c intersectionOf nil, y q o", "y type c"), ("c intersectionOf nil, y q o", "o type c")]),
+    ("nil-without-zero", |_| &[("c intersectionOf nil, y q o, y/0", "y type c")]),
+    ("nil-of-a-union", |_| &[("c intersectionOf nil, y q o", "y type c"), ("c unionOf nil, y q o", "y type c")]),
+    // Nil is the list without members where it has no list triples.
+    ("nil-with-list-triples", |cells| if cells.has_triples(NIL) { &[] } else { of_nil(cells) }),
+];
+
+/// All of them, each with its name.
+pub fn all() -> impl Iterator<Item = (&'static str, Mistake)> {
+    let reading = |(name, reading): &(&'static str, Reading)| (*name, Mistake { reading: *reading, ..Mistake::default() });
+    let of_nil = |(name, of_nil): &(&'static str, OfNil)| (*name, Mistake { of_nil: *of_nil, ..Mistake::default() });
+    READINGS.iter().map(reading).chain(OF_NIL.iter().map(of_nil))
+}
 
 fn pooled(cells: &Cells, named: u32) -> Vec<u32> {
     let (mut nodes, mut reached) = (BTreeSet::from([named]), vec![named]);

@@ -200,6 +200,58 @@ fn two_recipes_with_one_tail() {
     assert_eq!([33, 34, 35].map(|d| of_the_recipe.contains(&[40, 1, d])), [true, false, true]);
 }
 
+/// 32 is an intersection of nil: every subject is a 32, and what is object or predicate alone is not.
+#[test]
+fn intersection_of_nil() {
+    let load = [[31, 33, 34], [32, 21, 4], [35, 1, 33]];
+    let fifteen = [
+        [[9, 1, 9], [9, 1, 30], [9, 1, 32]],
+        [[10, 1, 9], [10, 1, 30], [10, 1, 32]],
+        [[31, 1, 9], [31, 1, 32], [31, 33, 34]],
+        [[32, 1, 9], [32, 1, 32], [32, 21, 4]],
+        [[35, 1, 9], [35, 1, 32], [35, 1, 33]],
+    ];
+    assert_eq!(run(&load, 15, 0).answer, fifteen.concat());
+    assert_eq!(run(&load, 14, 0).refusal, STORE_FULL);
+}
+
+/// Nil's own list triples are not read: rules 22 and 23 give nothing for it.
+#[test]
+fn nil_named_with_list_triples() {
+    let of_nil = [[4, 2, 33], [4, 3, 34], [34, 2, 35], [34, 3, 4]];
+    let types = |p: u32, more: &[Triple]| {
+        let load = [&[[32, p, 4], [31, 1, 33], [31, 1, 35]], &of_nil[..], more].concat();
+        run(&load, 60, 0).answer.into_iter().filter(|t| t[1] == 1 && t[2] != 9 && t[2] != 30).collect::<Vec<_>>()
+    };
+    let of_class = |ids: &[u32]| ids.iter().map(|x| [*x, 1, 32]).collect::<Vec<_>>();
+    let mut all = [of_class(&[4, 9, 10, 31, 32, 34]), vec![[31, 1, 33], [31, 1, 35]]].concat();
+    all.sort();
+    assert_eq!(types(21, &[]), all);
+    assert_eq!(types(22, &[]), [[31, 1, 33], [31, 1, 35]]);
+    assert_eq!(types(22, &[[9, 1, 32]]), [[9, 1, 32], [31, 1, 33], [31, 1, 35]]);
+}
+
+/// An intersection of nil counts where it only follows.
+#[test]
+fn intersection_of_nil_in_the_closure_alone() {
+    let r = run(&[[31, 21, 32], [32, 11, 4]], 18, 0);
+    assert!(r.answer.len() == 18 && [4, 9, 10, 31, 32].iter().all(|x| r.answer.contains(&[*x, 1, 31])));
+    let r = run(&[[31, 7, 21], [32, 31, 4], [33, 34, 35]], 60, 0);
+    assert!(r.answer.contains(&[33, 1, 32]) && !r.answer.contains(&[35, 1, 32]));
+}
+
+/// 0 is a subject once 0 0 0 is there, so 0 1 35 takes a row of the store. And it can carry on: what is a 31 is a subproperty of 32, so
+/// 0 0 0 gives 0 32 0, 0 is a 33 by the domain, 0 32 34 follows, and by the range 34 is a 35.
+#[test]
+fn intersection_of_nil_has_0() {
+    let load = [[31, 1, 19], [32, 31, 33], [34, 31, 35], [35, 21, 4]];
+    assert_eq!(run(&load, 25, 0).answer.len(), 22);
+    assert_eq!(run(&load, 24, 0).refusal, STORE_FULL);
+    let carried = [[31, 21, 4], [31, 23, 32], [31, 27, 7], [32, 5, 33], [33, 23, 34], [33, 27, 32], [32, 6, 35]];
+    let answer = |zero: &[Triple]| run(&[&carried, zero].concat(), 60, 0).answer;
+    assert!(answer(&[[35, 25, 33], [35, 27, 1]]).contains(&[34, 1, 35]) && !answer(&[]).contains(&[34, 1, 35]));
+}
+
 /// Rules read the lists of the load, whatever list triples follow.
 #[test]
 fn list_triples_of_the_closure() {
@@ -214,7 +266,7 @@ fn list_triples_of_the_closure() {
 /// The original is the measure where it reads the lists that are named as this model does.
 #[test]
 fn lists_inside_the_domain() {
-    let inside = |more: &[Triple], named: u32| in_domain(&[&THREE[..], more].concat(), &[[31, 21, named]]);
+    let inside = |more: &[Triple], named: u32| in_domain(&[&THREE[..], more].concat(), &[[31, 22, named]]);
     assert!(inside(&[], 40) && inside(&THREE, 40));
     assert!(!inside(&[], 41) && !inside(&[], 50), "named at a later cell");
     assert!(!inside(&[[60, 3, 50]], 40) && !inside(&[[60, 3, 40]], 40) && !inside(&[[4, 3, 50]], 40), "a cell in another triple");
@@ -227,6 +279,7 @@ fn lists_inside_the_domain() {
     );
     assert!(!inside(&[[60, 2, 90]], 60) && !inside(&[[60, 3, 61]], 61), "no rdf:rest, no triple of its own");
     assert!(!inside(&[[70, 2, 71], [70, 2, 72]], 40), "two rdf:first objects, wherever");
+    assert!(in_domain(&THREE, &[[31, 21, 40]]) && !in_domain(&THREE, &[[31, 21, 4]]), "an intersection of nil");
 }
 
 /// Thousands of cells, all of them named: a proper list, and a ring.

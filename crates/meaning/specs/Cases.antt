@@ -33,6 +33,41 @@ abbrev pub AllHold : List Case → Type 0
 AllHold [] = Unit {0}
 AllHold (x ∷ xs) = Holds x × AllHold xs
 
+-- nil named, REFERENCE 6.2: by intersectionOf it admits every subject, by unionOf none
+abbrev pub nil-cases : List Case
+nil-cases =
+    -- an intersection of nil: every subject is a 32; nil, 33, 34 and 36, no subjects, are not
+    model (triple 31 33 34 ∷ triple 32 21 4 ∷ triple 35 1 36 ∷ []) 65535 65535
+    (accepted (triple 9 1 9 ∷ triple 9 1 30 ∷ triple 9 1 32 ∷ triple 10 1 9 ∷ triple 10 1 30 ∷ triple 10 1 32
+    ∷ triple 31 1 9 ∷ triple 31 1 32 ∷ triple 31 33 34 ∷ triple 32 1 9 ∷ triple 32 1 32 ∷ triple 32 21 4 ∷ triple 35 1 9
+    ∷ triple 35 1 32 ∷ triple 35 1 36 ∷ []) [] 15 (0 ∷ 0 ∷ 0 ∷ 0 ∷ 0 ∷ [])) ∷
+    -- nil with list triples: every subject is a 31, nil too; no 37 1 32 by rule 22, and no 35 1 36, as the list of 33 ends at nil
+    model (triple 4 2 32 ∷ triple 4 3 33 ∷ triple 31 21 4 ∷ triple 33 2 34 ∷ triple 33 3 4 ∷ triple 35 1 32
+    ∷ triple 36 22 33 ∷ triple 37 1 34 ∷ []) 65535 65535
+    (accepted (triple 4 1 9 ∷ triple 4 1 31 ∷ triple 4 2 32 ∷ triple 4 3 33 ∷ triple 9 1 9 ∷ triple 9 1 30 ∷ triple 9 1 31
+    ∷ triple 10 1 9 ∷ triple 10 1 30 ∷ triple 10 1 31 ∷ triple 31 1 9 ∷ triple 31 1 31 ∷ triple 31 21 4 ∷ triple 33 1 9
+    ∷ triple 33 1 31 ∷ triple 33 2 34 ∷ triple 33 3 4 ∷ triple 35 1 9 ∷ triple 35 1 31 ∷ triple 35 1 32 ∷ triple 36 1 9
+    ∷ triple 36 1 31 ∷ triple 36 22 33 ∷ triple 37 1 9 ∷ triple 37 1 31 ∷ triple 37 1 34 ∷ triple 37 1 36
+    ∷ []) [] 27 (0 ∷ 0 ∷ 0 ∷ 0 ∷ 0 ∷ [])) ∷
+    -- a union of nil, which has list triples: no 33 1 31
+    model (triple 4 2 32 ∷ triple 4 3 4 ∷ triple 31 22 4 ∷ triple 33 1 32 ∷ []) 65535 65535
+    (accepted (triple 4 1 9 ∷ triple 4 2 32 ∷ triple 4 3 4 ∷ triple 9 1 9 ∷ triple 9 1 30 ∷ triple 10 1 9 ∷ triple 10 1 30
+    ∷ triple 31 1 9 ∷ triple 31 22 4 ∷ triple 33 1 9 ∷ triple 33 1 32 ∷ []) [] 11 (0 ∷ 0 ∷ 0 ∷ 0 ∷ 0 ∷ [])) ∷
+    -- an intersection of nil in the closure alone, 32 being equal to nil
+    model (triple 31 21 32 ∷ triple 32 11 4 ∷ []) 65535 65535
+    (accepted (triple 4 1 9 ∷ triple 4 1 31 ∷ triple 4 11 4 ∷ triple 4 11 32 ∷ triple 9 1 9 ∷ triple 9 1 30
+    ∷ triple 9 1 31 ∷ triple 10 1 9 ∷ triple 10 1 30 ∷ triple 10 1 31 ∷ triple 31 1 9 ∷ triple 31 1 31 ∷ triple 31 21 4
+    ∷ triple 31 21 32 ∷ triple 32 1 9 ∷ triple 32 1 31 ∷ triple 32 11 4 ∷ triple 32 11 32 ∷ []) [] 18 (0 ∷ 0 ∷ 0 ∷ 0 ∷ 0 ∷ [])) ∷
+    -- 0 is a subject once 0 0 0 is there: with 0 1 9 and 0 1 36 the closure has 27 triples, the answer 24
+    model (triple 31 1 19 ∷ triple 32 31 33 ∷ triple 34 31 35 ∷ triple 36 21 4 ∷ []) 27 0
+    (accepted (triple 9 1 9 ∷ triple 9 1 30 ∷ triple 9 1 36 ∷ triple 10 1 9 ∷ triple 10 1 30 ∷ triple 10 1 36
+    ∷ triple 31 1 9 ∷ triple 31 1 19 ∷ triple 31 1 36 ∷ triple 32 1 9 ∷ triple 32 1 36 ∷ triple 32 31 33 ∷ triple 33 1 9
+    ∷ triple 33 1 36 ∷ triple 33 11 33 ∷ triple 34 1 9 ∷ triple 34 1 36 ∷ triple 34 31 35 ∷ triple 35 1 9 ∷ triple 35 1 36
+    ∷ triple 35 11 35 ∷ triple 36 1 9 ∷ triple 36 1 36 ∷ triple 36 21 4 ∷ []) [] 24 (0 ∷ 0 ∷ 0 ∷ 0 ∷ 0 ∷ [])) ∷
+    -- a store of 26 is refused
+    model (triple 31 1 19 ∷ triple 32 31 33 ∷ triple 34 31 35 ∷ triple 36 21 4 ∷ []) 26 0 store-full ∷
+    []
+
 -- lists, REFERENCE 5.2
 abbrev pub list-cases : List Case
 list-cases =
@@ -81,7 +116,7 @@ list-cases =
     -- nil with list triples: it has no members still, and a list ends there
     list (triple 4 2 32 ∷ triple 4 3 33 ∷ triple 33 2 34 ∷ triple 33 3 4 ∷ []) 4 [] ∷
     list (triple 4 2 32 ∷ triple 4 3 33 ∷ triple 33 2 34 ∷ triple 33 3 4 ∷ []) 33 (34 ∷ []) ∷
-    []
+    nil-cases
 
 abbrev pub cases : List Case
 cases =

@@ -28,6 +28,13 @@ fn rows<const N: usize>(text: &str) -> Vec<[u32; N]> {
     text.split(", ").filter(|r| !r.is_empty()).map(row).collect()
 }
 
+/// These triples and those of the empty load, ascending.
+fn with_empty(text: &str) -> Vec<Triple> {
+    let mut all = [EMPTY.to_vec(), rows(text)].concat();
+    all.sort_unstable();
+    all
+}
+
 const BATCHES: &[Batch] = &[
     // "31 1 32, 32 8 33: nine triples."
     Batch {
@@ -98,6 +105,16 @@ const BATCHES: &[Batch] = &[
         b: "35 31 33, 33 31 34",
         whole: "31 1 9, 31 1 20, 32 1 9, 32 11 32, 32 11 35, 32 31 33, 33 1 9, 33 11 33, 33 31 34, 35 1 9, 35 11 32, 35 11 35, \
                 35 31 33",
+        found: "",
+    },
+    // 31 is an intersection of nil, so every subject of A and of B is a 31.
+    Batch {
+        name: "batch, intersection of nil",
+        more: 0,
+        a: "31 21 4, 32 33 35",
+        first: "9 1 31, 10 1 31, 31 1 9, 31 1 31, 31 21 4, 32 1 9, 32 1 31, 32 33 35",
+        b: "33 32 35",
+        whole: "9 1 31, 10 1 31, 31 1 9, 31 1 31, 31 21 4, 32 1 9, 32 1 31, 32 33 35, 33 1 9, 33 1 31, 33 32 35",
         found: "",
     },
     // 31 is the union of 37 and 39, 32 that of 38 and 39, and the cell of 39, 36, is the rest of both. B has a 37, and the blank node,
@@ -189,8 +206,8 @@ fn three_runs(text: &mut Text, batch: &Batch, order: Order) {
     let (terms, used) = (39 + batch.more, 1548 + 5 * batch.more);
     let after = [terms + 1, used + 5];
     let (a, b, found) = (rows(batch.a), rows(batch.b), rows::<5>(batch.found).concat());
-    let whole = [EMPTY.to_vec(), rows(batch.whole)].concat();
-    run_of(text, &arrange(&a, order), &[EMPTY.to_vec(), rows(batch.first)].concat(), 3, &[], [terms, used]);
+    let whole = with_empty(batch.whole);
+    run_of(text, &arrange(&a, order), &with_empty(batch.first), 3, &[], [terms, used]);
     let answer: Vec<Triple> = stored(text).chunks(3).map(|t| [t[0], t[1], t[2]]).collect();
 
     // Before the second run a put of a term held, a new one, and a lookup of a term of the first run.

@@ -5,9 +5,9 @@
 
 use crate::tables::{Case, Conclusion, ListCase, CASES, LISTS, NEAR};
 use generate::{names, small::small, word, Model, Random, FIRST};
-use model::closure::{check, close, close_reading, in_domain};
+use model::closure::{check, close, close_mistaken, in_domain};
 use model::dictionary::{is_container_property, run_terms, NAMED_NODE};
-use model::mistakes::READINGS;
+use model::mistakes::{self, OF_NIL, READINGS};
 use model::names::NAMES;
 use model::{Finding, Triple};
 use std::fmt::Write;
@@ -231,8 +231,8 @@ fn row(text: &mut String, at: usize, of: (&str, u32), load: &str, gives: &str, r
 }
 
 /// What is counted: the rules whose absence shows in the answer, zero triples that carry a real one (0), each check, container
-/// properties, and the wrong readings of lists that show.
-const THINGS: usize = READING + READINGS.len();
+/// properties, and the wrong readings of lists that show, in the answer or in the store that just suffices.
+const THINGS: usize = READING + READINGS.len() + OF_NIL.len();
 const READING: usize = 35;
 
 fn things(model: &Model, closure: &[Triple]) -> Vec<usize> {
@@ -246,7 +246,13 @@ fn things(model: &Model, closure: &[Triple]) -> Vec<usize> {
     if model.load.iter().any(|t| is_container(t[1])) {
         things.push(34);
     }
-    things.extend((0..READINGS.len()).filter(|k| shows(close_reading(&start, most, 0, READINGS[*k].1))).map(|k| READING + k));
+    let fits_another_store = |other: &Option<Vec<Triple>>| other.as_ref().is_some_and(|other| other.len() != closure.len());
+    for (k, (_, mistake)) in (READING..).zip(mistakes::all()) {
+        let other = close_mistaken(&start, most, mistake);
+        if fits_another_store(&other) || shows(other) {
+            things.push(k);
+        }
+    }
     things
 }
 

@@ -61,6 +61,7 @@ pub const CASES: &[Case] = &[
         Triple("y type e"),
     ),
     case("cls-int1, one class", 21, "y type c, e intersectionOf l, l first c, l rest nil", Triple("y type e")),
+    case("cls-int1, nil", 21, "e intersectionOf nil, x p y", Triple("x type e")),
     case("cls-int2", 22, "y type e, e intersectionOf l, l first c, l rest m, m first d, m rest nil", Triple("y type d")),
     case("cls-uni", 23, "y type d, e unionOf l, l first c, l rest m, m first d, m rest nil", Triple("y type e")),
     case("cls-svf1", 27, "r someValuesFrom c, r onProperty p, u p v, v type c", Triple("u type r")),
@@ -100,7 +101,9 @@ pub const NEAR: &[Case] = &[
         Triple("y type e"),
     ),
     case("a list of the closure", 0, "p subPropertyOf first, l p c, e unionOf l, y type c", Triple("y type e")),
-    case("an intersection of nothing", 0, "e intersectionOf nil, x p y", Triple("x type e")),
+    case("cls-int1, nil, an object", 0, "e intersectionOf nil, x p y", Triple("y type e")),
+    case("cls-int1, nil, a predicate", 0, "e intersectionOf nil, x p y", Triple("p type e")),
+    case("a union of nil", 0, "e unionOf nil, x p y", Triple("x type e")),
     case("cls-com", 0, "c complementOf d, x type c, x type d", Finding("1 x c d")),
     case("scm-eqc2", 0, "c subClassOf d, d subClassOf c", Triple("c equivalentClass d")),
     case("scm-spo", 0, "p subPropertyOf q, q subPropertyOf r", Triple("p subPropertyOf r")),
@@ -241,14 +244,46 @@ pub const LISTS: &[ListCase] = &[
     list(
         "nil named, a ring of one cell",
         "c intersectionOf nil, b unionOf nil, nil first d, nil rest nil, x type d, y type c",
-        &[],
-        NONE,
+        &[(21, "x type c"), (21, "nil type c")],
+        &[(23, "x type b"), (22, "y type d")],
     ),
     list(
         "nil named, with a rest",
-        "b unionOf nil, nil first d, nil rest m, m first e, m rest nil, x type d, x type e",
+        "c intersectionOf nil, b unionOf nil, nil first d, nil rest m, m first e, m rest nil, x type d, x type e, y p z",
+        &[(21, "y type c"), (21, "m type c")],
+        &[(23, "x type b"), (22, "y type d"), (22, "y type e"), (21, "z type c")],
+    ),
+    // Nil in an intersection
+    list(
+        "nil named by what equals it",
+        "c intersectionOf k, k sameAs nil, x p y",
+        &[(21, "x type c"), (21, "nil type c")],
+        &[(21, "y type c")],
+    ),
+    list(
+        "intersectionOf nil in the closure alone",
+        "q subPropertyOf intersectionOf, c q nil, x p y",
+        &[(21, "x type c")],
+        &[(21, "y type c")],
+    ),
+    list(
+        "what follows for every subject",
+        "c intersectionOf nil, b intersectionOf l, l first c, l rest nil, c subClassOf d, x p y",
+        &[(21, "x type b"), (14, "x type d"), (21, "l type c")],
+        &[(14, "y type d")],
+    ),
+    list(
+        "0 as a subject",
+        "c intersectionOf nil, p type FunctionalProperty, x p y, z p w",
+        &[(21, "x type c"), (21, "w type c")],
         &[],
-        &[(23, "x type b")],
+    ),
+    list(
+        "0 as a subject, carried on",
+        "r someValuesFrom r, r onProperty type, c intersectionOf nil, c hasValue q, c onProperty subPropertyOf, q domain d, q range e, \
+         d hasValue v, d onProperty q",
+        &[(21, "c type c"), (3, "v type e")],
+        &[],
     ),
     // Repeats
     list(
