@@ -5,9 +5,11 @@
 //!   check K     check K reports nothing            dirty       store and findings are not cleared after a refusal 8 or 9
 //!   refusal K   number K is answered as K + 1      counter     a put counts a byte too many
 //!   list NAME   lists, nil among them, are read as model::mistakes has it by that name
+//!   reader NAME files are read as model::misreadings has it by that name
 
-use model::bytes::{self, Lent};
+use model::bytes::{self, Lent, LentToRead};
 use model::closure::Mistake;
+use model::misreadings::{Misreading, MISREADINGS};
 use model::mistakes;
 use std::slice::{from_raw_parts, from_raw_parts_mut};
 use std::sync::OnceLock;
@@ -15,6 +17,7 @@ use std::sync::OnceLock;
 #[derive(Default)]
 struct Fault {
     mistake: Mistake,
+    misreading: Option<Misreading>,
     check: u32,
     refusal: u32,
     dirty: bool,
@@ -35,6 +38,7 @@ fn fault() -> &'static Fault {
             "dirty" => Fault { dirty: true, ..Fault::default() },
             "counter" => Fault { counter: true, ..Fault::default() },
             "list" => Fault { mistake: named(text.split(' ').nth(1).unwrap_or("")), ..Fault::default() },
+            "reader" => Fault { misreading: Some(misreading(text.split(' ').nth(1).unwrap_or(""))), ..Fault::default() },
             _ => panic!("no fault {text}"),
         }
     })
@@ -46,6 +50,10 @@ fn leaving_out(without: u32) -> Fault {
 
 fn named(name: &str) -> Mistake {
     mistakes::all().find(|(n, _)| *n == name).unwrap_or_else(|| panic!("no mistake {name}")).1
+}
+
+fn misreading(name: &str) -> Misreading {
+    MISREADINGS.iter().find(|(n, _)| *n == name).unwrap_or_else(|| panic!("no misreading {name}")).1
 }
 
 fn answered(refusal: u32) -> u32 {
@@ -157,6 +165,35 @@ pub unsafe extern "C" fn tablestork_run(
     if fault().check != 0 {
         forget_check(fault().check, from_raw_parts_mut(findings, findings_len), &mut *counts);
     }
+    answered(refusal)
+}
+
+/// # Safety
+/// As for `tablestork_start`.
+#[no_mangle]
+pub unsafe extern "C" fn tablestork_read(
+    table: *mut u8,
+    table_len: usize,
+    arena: *mut u8,
+    arena_len: usize,
+    terms: *mut u32,
+    used: *mut u32,
+    file: *const u8,
+    file_len: usize,
+    load: *mut u8,
+    load_len: usize,
+    triples: *mut u32,
+) -> u32 {
+    let lent = LentToRead {
+        table: from_raw_parts_mut(table, table_len),
+        arena: from_raw_parts_mut(arena, arena_len),
+        terms: &mut *terms,
+        used: &mut *used,
+        file: from_raw_parts(file, file_len),
+        load: from_raw_parts_mut(load, load_len),
+    };
+    let refusal;
+    (refusal, *triples) = bytes::read_mistaken(lent, fault().misreading);
     answered(refusal)
 }
 

@@ -1,13 +1,13 @@
-/* Tablestork, from C: start, put, lookup and run over buffers of bytes.
+/* Tablestork, from C: start, put, lookup, run and read over buffers of bytes.
  *
  * The library is what `rt staticlib edge_c` makes. Each function takes every input, ends, and is proved to give what crates/edge_c/specs
  * say. Numbers in the table, the load, the store, the findings and the list work buffer are little-endian, four bytes each; a length is
  * in bytes. The buffers of one call must not overlap, and no pointer may be null; a length may be 0.
  *
- * Each function returns 0, or the number of a refusal; every other number of its result is then 0. Refusals 1 to 7 and 10 to 12 change
- * no buffer. Numbers that a function writes it writes always.
+ * Each function returns 0, or the number of a refusal; every other number of its result is then 0. Refusals other than 8 and 9 change no
+ * buffer, but that a read which answers 3, 7, 11, 13 or 14 makes its load zero. Numbers that a function writes it writes always.
  *
- * A run needs a stack of 11 MB, the others 2 MB. */
+ * A run needs a stack of 11 MB, a read 4 MB, the others 2 MB. */
 #ifndef TABLESTORK_H
 #define TABLESTORK_H
 
@@ -21,7 +21,7 @@ extern "C" {
 /* The refusals. */
 #define TABLESTORK_BROKEN_DICTIONARY 1 /* no sequence of puts after a start leaves these contents */
 #define TABLESTORK_RAGGED_LOAD 2       /* not whole triples */
-#define TABLESTORK_LOAD_TOO_LONG 3     /* over 16,384 triples */
+#define TABLESTORK_LOAD_TOO_LONG 3     /* over 16,384 triples; in a read also more than its load has room for */
 #define TABLESTORK_ILL_SIZED_STORE 4   /* a buffer of another length than the call takes */
 #define TABLESTORK_BLANK_ID 5          /* an id 0 in the load */
 #define TABLESTORK_UNKNOWN_TERM 6      /* an id in the load that is not below the term count */
@@ -31,6 +31,8 @@ extern "C" {
 #define TABLESTORK_UNKNOWN_KIND 10     /* a kind other than 1 to 3 */
 #define TABLESTORK_TERM_TOO_LONG 11    /* over 4,096 bytes */
 #define TABLESTORK_NO_SUCH_ID 12       /* not below the term count */
+#define TABLESTORK_BAD_LINE 13         /* a line that the grammar, UTF-8, an escape or an IRI makes no N-Triples */
+#define TABLESTORK_LONG_LINE 14        /* a line of over 32,768 bytes without its end */
 
 /* The kinds of a term. */
 #define TABLESTORK_NAMED_NODE 1
@@ -55,6 +57,12 @@ uint32_t tablestork_lookup(const uint8_t *table, size_t table_len, const uint8_t
 uint32_t tablestork_run(uint8_t *table, size_t table_len, uint8_t *arena, size_t arena_len, uint32_t *terms, uint32_t *used,
                         const uint8_t *load, size_t load_len, uint8_t *store, size_t store_len, uint8_t *findings, size_t findings_len,
                         uint8_t *work, size_t work_len, uint32_t *triples, uint32_t counts[5]);
+
+/* Reads a file of RDF 1.1 N-Triples: puts its terms, and writes its triples in order to the load, three numbers a triple, then zeros, and
+ * their count. A file is refused at its first failing line, the dictionary as before and the load all zero. Refusals 1, 2, and then, line
+ * by line, 14, 13, 11, 7, 3. */
+uint32_t tablestork_read(uint8_t *table, size_t table_len, uint8_t *arena, size_t arena_len, uint32_t *terms, uint32_t *used,
+                         const uint8_t *file, size_t file_len, uint8_t *load, size_t load_len, uint32_t *triples);
 
 #ifdef __cplusplus
 }

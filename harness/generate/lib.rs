@@ -1,5 +1,6 @@
-//! Random models and benchmark models. Everything comes from a seed: the same seed gives the same models on every machine.
+//! Random models and files, and those of benchmarks. Everything comes from a seed: the same seed gives the same on every machine.
 
+pub mod files;
 pub mod large;
 pub mod random;
 mod recipes;

@@ -1,12 +1,15 @@
 //! What random models bring up, counted: a comparison shows nothing about what never occurs.
 
+use crate::files::{benchmark_file, file, BENCHMARK_TERMS, BENCHMARK_TRIPLES};
 use crate::large::{benchmark, large, KINDS};
 use crate::small::small;
 use crate::{word, Model, Random, FIRST};
 use model::closure::{check, close, close_mistaken, in_domain, Mistake};
-use model::dictionary::{is_container_property, Term};
+use model::dictionary::{bytes_of, is_container_property, starting_terms, Term};
 use model::mistakes::{self, OF_NIL, READINGS};
-use model::{Triple, LOAD_LIMIT, STORE_LIMIT};
+use model::ntriples::{line, lines, Line};
+use model::reading::Reading;
+use model::{Triple, ARENA_LIMIT, ENTRIES_LIMIT, LINE_LIMIT, LOAD_LIMIT, STORE_LIMIT, TERM_LIMIT};
 
 const MODELS: u64 = 1_500;
 
@@ -168,4 +171,43 @@ fn an_item_can_be_made_again() {
     for k in 0..20 {
         assert_eq!(small(&mut Random::item(9, k)).text(), small(&mut Random::item(9, k)).text());
     }
+}
+
+/// Random files are valid, and have every kind of line, of end and of term, terms that a start puts and `urn:_` among them.
+#[test]
+fn random_files_are_valid() {
+    let (mut said, mut kinds, mut held, mut blank_id, mut repeated) = ([0; 2], [0; 4], 0, 0, 0);
+    let start = starting_terms();
+    let mut ends = [0; 3];
+    for k in 0..MODELS {
+        let text = file(&mut Random::item(9, k));
+        for (count, end) in ends.iter_mut().zip(["\r\n", "\n", "\r"]) {
+            *count += u32::from(text.ends_with(end));
+        }
+        for bytes in lines(text.as_bytes()) {
+            match line(bytes) {
+                Line::Nothing => said[0] += 1,
+                Line::Bad => panic!("a bad line: {:?}", String::from_utf8_lossy(bytes)),
+                Line::Triple(terms) => {
+                    assert!(terms.iter().all(|(_, b)| b.len() <= TERM_LIMIT) && bytes.len() <= LINE_LIMIT);
+                    said[1] += 1;
+                    terms.iter().for_each(|(kind, _)| kinds[*kind as usize] += 1);
+                    held += u32::from(terms.iter().any(|term| start[1..].contains(term)));
+                    blank_id += u32::from(terms.contains(&start[0]));
+                    repeated += u32::from(terms[0] == terms[1] || terms[1] == terms[2] || terms[0] == terms[2]);
+                }
+            }
+        }
+    }
+    assert!(said.iter().chain(&kinds[1..]).chain(&ends).chain(&[held, blank_id, repeated]).all(|n| *n >= 100));
+}
+
+#[test]
+fn the_benchmark_file_fits_a_dictionary() {
+    let text = benchmark_file();
+    let mut reading = Reading::new(vec![], ENTRIES_LIMIT, ARENA_LIMIT, LOAD_LIMIT, None);
+    assert_eq!(reading.file(text.as_bytes()), Ok(()));
+    assert_eq!((reading.triples.len(), reading.terms.len()), (BENCHMARK_TRIPLES, BENCHMARK_TERMS));
+    assert!(bytes_of(&starting_terms()) + bytes_of(&reading.terms) <= ARENA_LIMIT);
+    assert!((1..=3).all(|kind| reading.terms.iter().filter(|term| term.0 == kind).count() >= 5_000));
 }

@@ -1,8 +1,9 @@
-//! The C entry points, docs/REFERENCE.md, 9: the four calls over byte slices, ids little-endian. A byte length that is no multiple of
+//! The C entry points, docs/REFERENCE.md, 9: the five calls over byte slices, ids little-endian. A byte length that is no multiple of
 //! 4 is 2 for a load, 1 for a table after the start, else 4, each at its place in the order.
 
 use crate::calls::{self, Buffers, Dictionary};
 use crate::closure::Mistake;
+use crate::misreadings::Misreading;
 use crate::*;
 
 fn numbers(bytes: &[u8]) -> Vec<u32> {
@@ -47,6 +48,41 @@ pub fn lookup(table: &[u8], arena: &[u8], terms: u32, used: u32, id: u32) -> (u3
     let d = Dictionary { table: &mut words, arena: &mut arena, terms: &mut terms, used: &mut used };
     let (refusal, kind, begin, length) = calls::lookup(d, id);
     (refusal, kind, begin as u64, length as u64)
+}
+
+/// What a read is lent, as bytes.
+pub struct LentToRead<'a> {
+    pub table: &'a mut [u8],
+    pub arena: &'a mut [u8],
+    pub terms: &'a mut u32,
+    pub used: &'a mut u32,
+    pub file: &'a [u8],
+    pub load: &'a mut [u8],
+}
+
+/// Refusal, and the count of the triples read.
+pub fn read(lent: LentToRead) -> (u32, u32) {
+    read_mistaken(lent, None)
+}
+
+/// The same with a mistake.
+pub fn read_mistaken(lent: LentToRead, mistake: Option<Misreading>) -> (u32, u32) {
+    if lent.table.len() % 4 != 0 {
+        return (BROKEN_DICTIONARY, 0);
+    }
+    let (mut table, mut load) = (numbers(lent.table), numbers(lent.load));
+    // As for a run's load. A load refused as ragged is not written, so neither are its bytes.
+    let ragged = lent.load.len() % 4 != 0;
+    if ragged {
+        load.resize(1, 0);
+    }
+    let d = Dictionary { table: &mut table, arena: lent.arena, terms: lent.terms, used: lent.used };
+    let result = calls::read_mistaken(d, lent.file, &mut load, mistake);
+    write(lent.table, &table);
+    if !ragged {
+        write(lent.load, &load);
+    }
+    result
 }
 
 /// What a run is lent, as bytes.

@@ -1,7 +1,9 @@
-//! The four calls on numbers, docs/REFERENCE.md, 3: result, refusals in their order, and every buffer after the call.
+//! The five calls on numbers, docs/REFERENCE.md, 3: result, refusals in their order, and every buffer after the call.
 
 use crate::closure::{check, close_mistaken, Mistake};
 use crate::dictionary::{self as dict, Term};
+use crate::misreadings::Misreading;
+use crate::reading::Reading;
 use crate::*;
 
 /// A table, an arena and the two counters of `put`.
@@ -78,6 +80,38 @@ pub fn lookup(d: Dictionary, id: u32) -> (u32, u32, usize, usize) {
     }
     let (kind, bytes) = &terms[id as usize];
     (0, *kind, dict::bytes_of(&terms[..id as usize]), bytes.len())
+}
+
+/// Refusal, and the count of the triples read. The load holds them, then zeros; a refused file leaves it all zero.
+pub fn read(d: Dictionary, file: &[u8], load: &mut [u32]) -> (u32, u32) {
+    read_mistaken(d, file, load, None)
+}
+
+/// The same with a mistake.
+pub fn read_mistaken(mut d: Dictionary, file: &[u8], load: &mut [u32], mistake: Option<Misreading>) -> (u32, u32) {
+    let Some(terms) = d.held() else {
+        return (BROKEN_DICTIONARY, 0);
+    };
+    if load.len() % 3 != 0 {
+        return (RAGGED_LOAD, 0);
+    }
+    let errs = |by: Misreading| mistake == Some(by);
+    let mut reading = Reading::new(terms, dict::entries(d.table.len()), d.arena.len(), load.len() / 3, mistake);
+    let refusal = reading.file(file).err().unwrap_or(0);
+    if refusal == 0 || errs(Misreading::TermsLeft) {
+        d.write(&reading.terms);
+    }
+    if !errs(if refusal == 0 { Misreading::RestLeft } else { Misreading::LoadLeft }) {
+        load.fill(0);
+    }
+    let count = reading.triples.len() as u32;
+    if refusal != 0 {
+        return (refusal, if errs(Misreading::CountTold) { count } else { 0 });
+    }
+    for (row, triple) in load.chunks_mut(3).zip(&reading.triples) {
+        row.copy_from_slice(triple);
+    }
+    (0, count)
 }
 
 /// The buffers that a run is lent beside the dictionary.

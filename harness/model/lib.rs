@@ -1,15 +1,20 @@
 //! The reference model: an independent model of what docs/REFERENCE.md says, written for comparison, and not from the port: the
-//! dictionary, the closure and the four calls, each call's result and every buffer after it. It is plain rather than fast, and shares
-//! nothing with the port.
+//! dictionary, the closure, N-Triples and the five calls, each call's result and every buffer after it. It is plain rather than
+//! fast, and shares nothing with the port.
 
 pub mod bytes;
 pub mod calls;
 pub mod closure;
 pub mod dictionary;
 pub mod lists;
+pub mod misreadings;
 pub mod mistakes;
 pub mod names;
+pub mod ntriples;
+pub mod reading;
 
+#[cfg(test)]
+mod read_tests;
 #[cfg(test)]
 mod tests;
 
@@ -31,6 +36,8 @@ pub const FINDINGS_FULL: u32 = 9;
 pub const UNKNOWN_KIND: u32 = 10;
 pub const TERM_TOO_LONG: u32 = 11;
 pub const NO_SUCH_ID: u32 = 12;
+pub const BAD_LINE: u32 = 13;
+pub const LONG_LINE: u32 = 14;
 
 pub const LOAD_LIMIT: usize = 16_384;
 pub const STORE_LIMIT: usize = 65_535;
@@ -38,3 +45,4 @@ pub const FINDINGS_LIMIT: usize = 65_535;
 pub const ENTRIES_LIMIT: usize = 65_535;
 pub const ARENA_LIMIT: usize = 1_048_576;
 pub const TERM_LIMIT: usize = 4_096;
+pub const LINE_LIMIT: usize = 32_768;

@@ -7,16 +7,17 @@ use crate::lists::{members, Cells};
 use crate::mistakes::READINGS;
 use crate::*;
 
-struct Owned {
-    table: Vec<u32>,
-    arena: Vec<u8>,
-    terms: u32,
-    used: u32,
+#[derive(Clone, Debug, PartialEq, Eq)]
+pub struct Owned {
+    pub table: Vec<u32>,
+    pub arena: Vec<u8>,
+    pub terms: u32,
+    pub used: u32,
 }
 
 impl Owned {
     /// Started, with room for `entries` entries and `bytes` bytes.
-    fn start(entries: usize, bytes: usize) -> (u32, Owned) {
+    pub fn start(entries: usize, bytes: usize) -> (u32, Owned) {
         let mut d = Owned { table: vec![7; 64 + 4 * entries], arena: vec![7; bytes], terms: 7, used: 7 };
         let refusal = calls::start(d.lend());
         (refusal, d)
@@ -31,7 +32,7 @@ impl Owned {
         d
     }
 
-    fn lend(&mut self) -> Dictionary<'_> {
+    pub fn lend(&mut self) -> Dictionary<'_> {
         Dictionary { table: &mut self.table, arena: &mut self.arena, terms: &mut self.terms, used: &mut self.used }
     }
 }

@@ -1,13 +1,14 @@
 //! replay FILE: reads a text of calls as program replay does (crates/trial_replay/README.md), with the reference model in the port's
 //! place, and prints what that program has to print. A line of another shape, or a cell or length out of range, ends it with status 1.
 
-use model::calls::{lookup, put, run, start, Buffers, Dictionary};
+use model::calls::{lookup, put, read, run, start, Buffers, Dictionary};
 
 const SIZE: usize = 70_112;
 /// The cells before the load.
 const SAVED: usize = 20_952;
 
-/// First cell and number of cells, in the order of the registers with the lengths: table, arena, term, load, store, findings, work.
+/// First cell and number of cells, in the order of the registers with the lengths: table, arena, term, load, store, findings, work. The
+/// file of a read is in the cells of a term.
 const LENT: [[usize; 2]; 7] =
     [[32, 320], [352, 9_600], [9_952, 4_100], [20_952, 49_160], [18_152, 2_100], [20_252, 500], [20_752, 200]];
 const PART: usize = 14_052;
@@ -83,11 +84,11 @@ impl Program {
 
     fn call(&mut self, call: u32, differ: bool) -> Option<()> {
         match call {
-            0..=3 => perform(call, &mut self.memory)?,
-            4 => {}
+            0..=4 => perform(call, &mut self.memory)?,
+            5 => {}
             _ => return None,
         }
-        self.calls += u32::from(call < 4);
+        self.calls += u32::from(call < 5);
         self.differences += u32::from((self.memory != self.expected) != differ);
         Some(())
     }
@@ -112,11 +113,12 @@ fn perform(call: u32, m: &mut [u32]) -> Option<()> {
             (m[11], m[13], m[14]) = (number, kind, length as u32);
             (0..length).for_each(|k| m[PART + k] = u32::from(arena[begin + k]));
         }
-        _ => {
+        3 => {
             let (number, count, counts) = run(d, load, Buffers { store, findings, work });
             (m[11], m[15]) = (number, count);
             m[16..21].copy_from_slice(&counts);
         }
+        _ => (m[11], m[15]) = read(d, &term, load),
     }
     (m[9], m[10]) = (terms, used);
     lent[1] = arena.iter().map(|b| u32::from(*b)).collect();

@@ -1,4 +1,4 @@
-//! The port as a safe Rust crate: an owned dictionary, and runs that hand back owned answers.
+//! The port as a safe Rust crate: an owned dictionary, and reads and runs that hand back owned triples.
 //!
 //! A call of the port needs some megabytes of stack for its tables; `with_stack` gives a thread enough.
 
@@ -26,10 +26,12 @@ pub enum Refusal {
     UnknownKind = 10,
     TermTooLong = 11,
     NoSuchId = 12,
+    BadLine = 13,
+    LongLine = 14,
 }
 
 impl Refusal {
-    pub const ALL: [Refusal; 12] = [
+    pub const ALL: [Refusal; 14] = [
         Refusal::BrokenDictionary,
         Refusal::RaggedLoad,
         Refusal::LoadTooLong,
@@ -42,6 +44,8 @@ impl Refusal {
         Refusal::UnknownKind,
         Refusal::TermTooLong,
         Refusal::NoSuchId,
+        Refusal::BadLine,
+        Refusal::LongLine,
     ];
 
     /// Nothing for 0; else the refusal of this number.
@@ -145,6 +149,40 @@ impl Dictionary {
             work: &mut b.work,
         });
         Refusal::check(refusal).map(|()| (count, counts))
+    }
+
+    /// Reads a file of N-Triples with a load for this many triples: its triples in order.
+    pub fn read(&mut self, file: &[u8], triples: usize) -> Result<Vec<Triple>, Refusal> {
+        let mut load = Load::new(triples);
+        let count = self.read_in(file, &mut load)?;
+        Ok(load.triples(count))
+    }
+
+    /// The same in a load that the caller made, for a time of the read alone: the count of the triples.
+    pub fn read_in(&mut self, file: &[u8], load: &mut Load) -> Result<u32, Refusal> {
+        let (refusal, count) = port::read(port::LentToRead {
+            table: &mut self.table,
+            arena: &mut self.arena,
+            terms: &mut self.terms,
+            used: &mut self.used,
+            file,
+            load: &mut load.0,
+        });
+        Refusal::check(refusal).map(|()| count)
+    }
+}
+
+/// What a read writes its triples to, cleared.
+pub struct Load(Vec<u8>);
+
+impl Load {
+    pub fn new(triples: usize) -> Load {
+        Load(vec![0; 12 * triples])
+    }
+
+    /// What an accepted read left.
+    pub fn triples(&self, count: u32) -> Vec<Triple> {
+        rows(&self.0, count as usize)
     }
 }
 

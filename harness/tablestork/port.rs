@@ -57,6 +57,19 @@ extern "C" {
         triples: *mut u32,
         counts: *mut [u32; 5],
     ) -> u32;
+    fn tablestork_read(
+        table: *mut u8,
+        table_len: usize,
+        arena: *mut u8,
+        arena_len: usize,
+        terms: *mut u32,
+        used: *mut u32,
+        file: *const u8,
+        file_len: usize,
+        load: *mut u8,
+        load_len: usize,
+        triples: *mut u32,
+    ) -> u32;
 }
 
 /// A number that no call gives back, to see that each result is written.
@@ -144,4 +157,35 @@ pub fn run(lent: Lent) -> (u32, u32, [u32; 5]) {
         )
     };
     (refusal, triples, counts)
+}
+
+/// What a read is lent.
+pub struct LentToRead<'a> {
+    pub table: &'a mut [u8],
+    pub arena: &'a mut [u8],
+    pub terms: &'a mut u32,
+    pub used: &'a mut u32,
+    pub file: &'a [u8],
+    pub load: &'a mut [u8],
+}
+
+/// Refusal, and the count of the triples read.
+pub fn read(lent: LentToRead) -> (u32, u32) {
+    let mut triples = UNWRITTEN;
+    let refusal = unsafe {
+        tablestork_read(
+            lent.table.as_mut_ptr(),
+            lent.table.len(),
+            lent.arena.as_mut_ptr(),
+            lent.arena.len(),
+            lent.terms,
+            lent.used,
+            lent.file.as_ptr(),
+            lent.file.len(),
+            lent.load.as_mut_ptr(),
+            lent.load.len(),
+            &mut triples,
+        )
+    };
+    (refusal, triples)
 }

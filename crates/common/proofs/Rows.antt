@@ -1,7 +1,7 @@
 -- Rows of numbers and the triples and findings that they hold. Assumes nothing.
 use mathlib.Core.Path.{_≡_, refl, sym, _∙_, ap}
 use mathlib.Core.List.{List, [], _∷_, _++_, append-nil}
-use Prim.Native.Nat.{ℕ, _*_, _-_}
+use Prim.Native.Nat.{ℕ, zero, suc, _*_, _-_}
 use native.Mathlib.Omega.{arith}
 use lib.ListN.{length, take, replicate}
 use lib.Seq.{take-at}
@@ -25,6 +25,17 @@ length-flat (t ∷ ts) = let e = length-flat ts in omega arith
 pub length-flat-findings : (fs : List Finding) → length (flat-findings fs) ≡ 5 * length fs
 length-flat-findings [] = refl
 length-flat-findings (x ∷ xs) = let e = length-flat-findings xs in omega arith
+
+-- a row of whole triples is laid out as it was read
+pub flat-triples : (k : ℕ) (l : List ℕ) → length l ≡ 3 * k → (flat (triples l) ≡ l) × (length (triples l) ≡ k)
+flat-triples zero [] e = (refl, refl)
+flat-triples zero (a ∷ l) e = absurd (omega arith)
+flat-triples (suc k) [] e = absurd (omega arith)
+flat-triples (suc k) (a ∷ []) e = absurd (omega arith)
+flat-triples (suc k) (a ∷ b ∷ []) e = absurd (omega arith)
+flat-triples (suc k) (a ∷ b ∷ c ∷ l) e =
+    let (p, q) = flat-triples k l (omega arith) in
+    (ap (λ (m : List ℕ). a ∷ b ∷ c ∷ m) p, ap suc q)
 
 -- the triples that a filled store holds, by their number
 pub triples-filled : (buffer : List ℕ) (ts : List Triple) → triples (take (3 * length ts) (filled buffer (flat ts))) ≡ ts

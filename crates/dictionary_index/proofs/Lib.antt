@@ -1,2 +1,3 @@
 pub mod Cases
 pub mod Looking
+pub mod Refusals

@@ -19,6 +19,7 @@ ghost use Rattle.dictionary_layout.specs.Dictionary.{valid, lookup-answer};
 ghost use Rattle.dictionary_layout.specs.Calls.{put-gives};
 ghost use Rattle.dictionary_layout.specs.Values.{contents};
 ghost use Rattle.dictionary_index.specs.Values.{put-left, located, further, Locates};
+ghost use Rattle.dictionary_index.specs.Found.{term-refusal, Found};
 
 // A refusal leaves the counters as they are.
 pub fn refused_put(number: u32, counters: Counters) -> PutNext
@@ -42,6 +43,49 @@ fn accepted_put(id: u32, counters: Counters) -> PutNext
     }
 }
 
+// The number by which a put refuses a term, whatever is held, or 0.
+pub fn put_refusal(kind: u32, bytes: &[u8]) -> u32
+    ensures { λ r. ⌜ r ≡ term-refusal (term kind (now (bytes .entry))) ⌝ }
+{
+    if kind < 1 {
+        return 10;
+    }
+    if 3 < kind {
+        return 10;
+    }
+    if TERM_LIMIT < bytes.len() {
+        return 11;
+    }
+    0
+}
+
+// Put where the term was sought: its id is given, or the term count where it is not held.
+pub fn put_found(
+    table: &mut [u32],
+    arena: &mut [u8],
+    counters: Counters,
+    kind: u32,
+    bytes: &[u8],
+    chain: usize,
+    id: u32,
+) -> PutNext
+    requires { ⌜ Found (contents (now table) (now arena) counters) (term kind (now bytes)) chain id ⌝ }
+    ensures { λ r. ⌜ put-left r (now (table .exit)) (now (arena .exit))
+        ≡ put-gives (contents (now (table .entry)) (now (arena .entry)) counters) (term kind (now (bytes .entry))) ⌝ }
+{
+    if id < counters.terms {
+        return accepted_put(id, counters);
+    }
+    if table.len() < HEADS_WIDTH + ENTRY_WIDTH * (counters.terms as usize + 1) {
+        return refused_put(7, counters);
+    }
+    if arena.len() < counters.used as usize + bytes.len() {
+        return refused_put(7, counters);
+    }
+    let next = append(table, arena, counters, kind, bytes, chain);
+    accepted_put(counters.terms, next)
+}
+
 // Put without the test for a broken dictionary; it leaves a dictionary that is not broken.
 pub fn put_valid(
     table: &mut [u32],
@@ -54,28 +98,13 @@ pub fn put_valid(
     ensures { λ r. ⌜ put-left r (now (table .exit)) (now (arena .exit))
         ≡ put-gives (contents (now (table .entry)) (now (arena .entry)) counters) (term kind (now (bytes .entry))) ⌝ }
 {
-    if kind < 1 {
-        return refused_put(10, counters);
-    }
-    if 3 < kind {
-        return refused_put(10, counters);
-    }
-    if TERM_LIMIT < bytes.len() {
-        return refused_put(11, counters);
+    let refusal = put_refusal(kind, bytes);
+    if refusal != 0 {
+        return refused_put(refusal, counters);
     }
     let chain = digest(kind, bytes).chain;
     let id = find_term(table, arena, counters, kind, bytes, chain);
-    if id < counters.terms {
-        return accepted_put(id, counters);
-    }
-    if table.len() < HEADS_WIDTH + ENTRY_WIDTH * (counters.terms as usize + 1) {
-        return refused_put(7, counters);
-    }
-    if arena.len() < counters.used as usize + bytes.len() {
-        return refused_put(7, counters);
-    }
-    let next = append(table, arena, counters, kind, bytes, chain);
-    accepted_put(counters.terms, next)
+    put_found(table, arena, counters, kind, bytes, chain, id)
 }
 
 // Where the term of an id lies.

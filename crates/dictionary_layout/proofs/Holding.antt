@@ -4,7 +4,7 @@ use mathlib.Core.Logic.{_⊎_, inl, inr}
 use mathlib.Core.Bool.{Bool, true, false, _&&_}
 use mathlib.Core.Option.{Option, some, none}
 use mathlib.Core.List.{List, [], _∷_, _++_, append-assoc, append-nil}
-use Prim.Native.Nat.{ℕ, suc, _+_, _-_, _%_, _≤_}
+use Prim.Native.Nat.{ℕ, zero, suc, _+_, _-_, _%_, _≤_}
 use native.Mathlib.Omega.{arith}
 use lib.Dec.{T, leb, eqb, leb→le, le→leb, eqb→eq}
 use lib.ListN.{length}
@@ -15,6 +15,7 @@ use Rattle.dictionary_layout.specs.Terms.{Term, start-terms, start-bytes
 use Rattle.dictionary_layout.specs.Layout.{Dict, size, layout, decode, start-table, entry-at}
 use Rattle.dictionary_layout.specs.Dictionary.{same-term, same-dict, place-from, kind-known, short, roomy, Put-answer, put-answer}
 use Rattle.dictionary_layout.specs.Dictionary.{put-at, abstract-put, sized, start-fits, adds, grows, begins, holdable, valid}
+use Rattle.dictionary_layout.specs.Dictionary.{full, all-put, if-zero, put-all}
 use Rattle.dictionary_layout.proofs.Equality.{same-term-refl, same-term→, same-dict-refl, same-dict→}
 use Rattle.dictionary_layout.proofs.Decoding.{decode-layout, layout-table, layout-arena, length-snoc, size-append}
 
@@ -192,6 +193,18 @@ holds-put tl al ts t h = go (put-cases tl al ts t)
       grown = grows-snoc tl al start-terms (h .more) t (h .grown)
           (subst (λ l. T (adds (length l) (abstract-put tl al l t))) (h .whole) (added→end tl al ts t a));
     }
+
+-- so do puts one after the other
+pub put-all-holds : (tl al : ℕ) (ts r us : List Term) → Holds tl al ts → put-all tl al ts r ≡ all-put us → Holds tl al us
+unfolding put-all
+put-all-holds tl al ts [] us h e = subst (Holds tl al) (cc) h
+put-all-holds tl al ts (t ∷ r) us h e =
+    go (abstract-put tl al ts t .number) e (put-all-holds tl al (abstract-put tl al ts t .held) r us (holds-put tl al ts t h))
+  where
+    go : (n : ℕ) → if-zero n (λ _. put-all tl al (abstract-put tl al ts t .held) r) (λ _. full) ≡ all-put us
+        → (put-all tl al (abstract-put tl al ts t .held) r ≡ all-put us → Holds tl al us) → Holds tl al us
+    go zero e k = k e
+    go (suc n) e k = let z : _≡_ {A = ℕ} 0 1 = cc in absurd (omega arith)
 
 -- VALID
 pub valid-layout : (tl al : ℕ) (ts : List Term) → Holds tl al ts → T (valid (layout tl al ts))

@@ -9,7 +9,7 @@ pub const START_BYTES: usize = 1325;
 
 pub const START_TABLE: usize = HEADS_WIDTH + ENTRY_WIDTH * START_COUNT;
 
-// How many buckets the hash of the test for a broken dictionary has.
+// How many buckets the hash of the terms has.
 pub const BUCKET_COUNT: usize = 65536;
 
 // How many terms there are, and how many arena bytes they use.
@@ -18,7 +18,7 @@ pub struct Counters {
     pub used: u32,
 }
 
-// A term's chain, and its bucket in the hash of the test for a broken dictionary.
+// A term's chain, and its bucket in the hash of the terms.
 pub struct Digest {
     pub chain: usize,
     pub bucket: usize,

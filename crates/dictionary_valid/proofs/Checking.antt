@@ -1,25 +1,25 @@
 -- The tests of one entry, and of all of them, in the order of the code. Assumes nothing.
-use mathlib.Core.Path.{_≡_, refl, sym, _∙_, ap, subst}
+use mathlib.Core.Path.{_≡_, sym, _∙_, ap, subst}
 use mathlib.Core.Logic.{_≢_}
 use mathlib.Core.Bool.{Bool, true, false}
 use mathlib.Core.List.{List}
 use Prim.Native.Nat.{ℕ, _+_, _-_, _≤_, _<_}
 use native.Mathlib.Omega.{arith}
 use lib.Dec.{T}
-use lib.ListN.{length, getD, take, drop, set, length-take}
-use Rattle.common.specs.Sizes.{heads-width, entry-limit, term-limit}
+use lib.ListN.{length, getD, set}
+use Rattle.common.specs.Sizes.{heads-width, entry-limit}
 use Rattle.dictionary_layout.specs.declared.values.Digest.{Digest}
-use Rattle.dictionary_layout.specs.Terms.{Term, term, start-count}
+use Rattle.dictionary_layout.specs.Terms.{Term, start-count}
 use Rattle.dictionary_layout.specs.Layout.{dict, chain, heads, entry-at}
 use Rattle.dictionary_layout.specs.Dictionary.{valid}
-use Rattle.dictionary_entries.specs.Entries.{start-of, length-of, kind-of, next-of, entry-term}
+use Rattle.dictionary_entries.specs.Entries.{length-of, next-of, entry-term}
 use Rattle.dictionary_layout.specs.Digest.{bucket, digest-of, bucket-count}
-use Rattle.dictionary_valid.specs.Scanning.{Scanned, Hashed, linked, Seen, Seekable, Scanning, Decides, Follows, Checked-entry}
-use Rattle.dictionary_valid.specs.Scanning.{Checked-all}
+use Rattle.dictionary_hash.specs.Hashing.{Hashed, linked, Finds-entry, Seekable, Hashable}
+use Rattle.dictionary_valid.specs.Scanning.{Scanned, Scanning, Decides, Follows, Checked-entry, Checked-all}
 use Rattle.dictionary_layout.proofs.Choice.{true-false}
 use Rattle.dictionary_layout.proofs.Digests.{chain-below, digest-bucket}
-use Rattle.dictionary_valid.proofs.Hashing.{hashed-more}
-use Rattle.dictionary_valid.proofs.Scanning.{scanned-limits, scanned-fits, Tested, scanned-more}
+use Rattle.dictionary_hash.proofs.Hashing.{read-term, read-is, hashed-more}
+use Rattle.dictionary_valid.proofs.Scanning.{scanned-limits, scanned-fits, scanned-short, Tested, scanned-more}
 use Rattle.dictionary_valid.proofs.Refusing.{valid-follows, valid-next, valid-fresh}
 
 -- what a test decides
@@ -33,20 +33,6 @@ decides-no f = record { yes = λ e. true-false (sym e); no = λ _. f }
 pub entry-broken : {table arena heads hash : List ℕ} {k : ℕ} {ok : Bool} {end : ℕ} → ok ≡ false
     → ((n used : ℕ) → k < n → T (valid (dict table arena n used)) → ⊥) → Checked-entry table arena heads hash k ok end
 entry-broken e f = record { yes = λ q. true-false (sym q ∙ e); no = λ _ n l used v. f n used l v }
-
--- the term that the code reads at entry k, whose bytes begin at a place of the arena
-abbrev pub read-term : List ℕ → List ℕ → ℕ → ℕ → Term
-read-term table arena k at = term (kind-of table k) (take (at + length-of table k - at) (drop at arena))
-
-pub read-is : (table arena : List ℕ) (k at : ℕ) → start-of table k ≡ at → read-term table arena k at ≡ entry-term table arena k
-read-is table arena k at e =
-    let q : at + length-of table k - at ≡ length-of table k = omega arith in λ i. term (kind-of table k)
-    (take (q i) (drop (sym e i) arena))
-
--- and its bytes are no more than its entry says
-pub read-short : (table arena : List ℕ) (k at : ℕ) → length-of table k ≤ term-limit
-    → length (read-term table arena k at .bytes) ≤ term-limit
-read-short table arena k at h = omega (arith, length-take (at + length-of table k - at) (drop at arena))
 
 module _ {table arena heads hash : List ℕ} {k at : ℕ} (s : Scanning table arena heads hash k at) where
   abbrev t : Term
@@ -92,13 +78,14 @@ module _ {table arena heads hash : List ℕ} {k at : ℕ} (s : Scanning table ar
     next-broken h w n used l v = w (valid-next (s .scanned) n used l v h ∙ ap (λ (c : ℕ). getD heads c 0) (sym chained))
 
     -- an entry before names the term
-    pub seen-broken : {b : Bool} → Seen table arena k (read-term table arena k at) b → b ≡ true → (n used : ℕ) → k < n
+    pub seen-broken : {r : ℕ} → Finds-entry table arena k (read-term table arena k at) r → r ≢ 0 → (n used : ℕ) → k < n
         → T (valid (dict table arena n used)) → ⊥
-    seen-broken w e n used l v = let (j, h, p) = w .yes e in valid-fresh (s .scanned) n used l v j h (p ∙ is)
+    seen-broken {r} w e n used l v =
+        let (h, p) = w .found (omega arith) in valid-fresh (s .scanned) n used l v (r - 1) (omega arith) (p ∙ is)
 
     -- every test passed
-    pub entry-passed : {b : Bool} {hash' : List ℕ} → heads-width ≤ length heads → next-of table k ≡ getD heads (d .chain) 0
-        → Seen table arena k (read-term table arena k at) b → b ≡ false → hash' ≡ linked hash (d .bucket) k
+    pub entry-passed : {r : ℕ} {hash' : List ℕ} → heads-width ≤ length heads → next-of table k ≡ getD heads (d .chain) 0
+        → Finds-entry table arena k (read-term table arena k at) r → r ≡ 0 → hash' ≡ linked hash (d .bucket) k
         → Checked-entry table arena (set heads (d .chain) k) hash' k true (at + length-of table k)
     entry-passed room e w z hs = record {
       yes = λ _. (
@@ -115,26 +102,14 @@ module _ {table arena heads hash : List ℕ} {k at : ℕ} (s : Scanning table ar
           entry = s .entry;
           follows = f;
           next = e ∙ ap (λ (x : ℕ). getD heads x 0) chained;
-          fresh = λ j l p. w .no z j l (p ∙ sym is);
+          fresh = λ j l p. w .none z j l (p ∙ sym is);
           room = room;
         }
 
--- THE START'S ENTRIES, entered in the hash
-pub record Entered (table arena hash : List ℕ) (k : ℕ) : Type 0 where
-  pub within : k ≤ start-count
-  pub hashed : Hashed table arena hash k
-
-pub entered-more : {table arena hash hash' : List ℕ} {k : ℕ} {d : Digest} → Entered table arena hash k → k < start-count
-    → kind-of table k < 4294967296 → d ≡ digest-of (read-term table arena k (start-of table k)) → hash' ≡ linked hash (d .bucket) k
-    → Entered table arena hash' (k + 1)
-entered-more {table} {arena} {hash} {hash'} {k} {d} s h l f e =
-    let u = read-term table arena k (start-of table k) in
-    let keyed = ap (λ (x : Digest). x .bucket) f ∙ ap bucket (read-is table arena k (start-of table k) refl) in
-    record {
-      within = omega arith;
-      hashed = subst (λ (x : List ℕ). Hashed table arena x (k + 1)) (sym e)
-          (hashed-more (s .hashed) (digest-bucket u l f) (omega arith) (sym keyed));
-    }
+-- THE START'S ENTRIES can be entered in a hash
+pub start-hashable : {table arena heads hash : List ℕ} {at : ℕ} → Scanned table arena heads start-count at → Hashed table arena hash 0
+    → Hashable table arena hash start-count
+start-hashable s h = record { empty = h; fits = scanned-fits s; short = scanned-short s; few = omega arith }
 
 -- ALL ENTRIES
 pub record Scan-state (table arena heads₀ heads hash : List ℕ) (n k at : ℕ) : Type 0 where

@@ -1,4 +1,3 @@
-pub mod Hashing
 pub mod Naming
 pub mod Scanning
 pub mod Refusing

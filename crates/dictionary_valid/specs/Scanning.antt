@@ -5,14 +5,13 @@ use mathlib.Core.Bool.{Bool, true, false}
 use mathlib.Core.List.{List}
 use Prim.Native.Nat.{ℕ, _+_, _*_, _≤_, _<_}
 use lib.Dec.{T}
-use lib.ListN.{length, getD, take, drop, set}
-use Rattle.common.specs.Last.{Last}
-use Rattle.common.specs.Sizes.{heads-width, entry-width, entry-limit, term-limit}
+use lib.ListN.{length, take, drop}
+use Rattle.common.specs.Sizes.{heads-width, entry-width, term-limit}
 use Rattle.dictionary_layout.specs.Terms.{Term, start-terms, start-count, start-bytes}
 use Rattle.dictionary_layout.specs.Layout.{dict, size, all-bytes, all-heads, all-entries, span, entry-at, start-table, layout, read}
 use Rattle.dictionary_layout.specs.Dictionary.{start-refusal, holdable, valid}
-use Rattle.dictionary_entries.specs.Entries.{start-of, length-of, kind-of, entry-term, Entry-fits}
-use Rattle.dictionary_layout.specs.Digest.{bucket-count, bucket}
+use Rattle.dictionary_entries.specs.Entries.{start-of, length-of, kind-of}
+use Rattle.dictionary_hash.specs.Hashing.{Hashed}
 
 -- the terms that the first n entries name
 abbrev pub named : List ℕ → List ℕ → ℕ → List Term
@@ -25,36 +24,6 @@ pub record Scanned (table arena heads : List ℕ) (k at : ℕ) : Type 0 where
   pub bytes : take at arena ≡ all-bytes (named table arena k)
   pub used : at ≡ size (named table arena k)
   pub chains : take heads-width heads ≡ span heads-width 0 (all-heads (named table arena k))
-
--- the bucket of the term that an entry names
-abbrev pub bucket-of : List ℕ → List ℕ → ℕ → ℕ
-bucket-of table arena j = bucket (entry-term table arena j)
-
--- the length of the hash: a head for each bucket, and a link for each entry
-abbrev pub term-hash-length : ℕ
-term-hash-length = bucket-count + bucket-count
-
--- the first k entries by their buckets: a head for each bucket, and behind the heads a link for each entry
-pub record Hashed (table arena hash : List ℕ) (k : ℕ) : Type 0 where
-  pub wide : length hash ≡ term-hash-length
-  pub heads : (x : ℕ) → x < bucket-count → Last (bucket-of table arena) x k (getD hash x 0)
-  pub links : (j : ℕ) → j < k → Last (bucket-of table arena) (bucket-of table arena j) j (getD hash (bucket-count + j) 0)
-
-abbrev pub linked : List ℕ → ℕ → ℕ → List ℕ
-linked hash x k = set (set hash (bucket-count + k) (getD hash x 0)) x (k + 1)
-
--- whether one of the first k entries names the term
-pub record Seen (table arena : List ℕ) (k : ℕ) (t : Term) (r : Bool) : Type 0 where
-  pub yes : r ≡ true → (j : ℕ) × (j < k) × (entry-term table arena j ≡ t)
-  pub no : r ≡ false → (j : ℕ) → j < k → entry-term table arena j ≡ t → ⊥
-
--- what the search for it needs
-pub record Seekable (table arena hash : List ℕ) (k : ℕ) (t : Term) (x : ℕ) : Type 0 where
-  pub hashed : Hashed table arena hash k
-  pub fits : (j : ℕ) → j < k → Entry-fits table arena j
-  pub few : k ≤ entry-limit
-  pub key : x ≡ bucket t
-  pub below : x < bucket-count
 
 -- the first k entries were scanned and hashed, and there is one more
 pub record Scanning (table arena heads hash : List ℕ) (k at : ℕ) : Type 0 where

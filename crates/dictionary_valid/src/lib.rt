@@ -3,10 +3,12 @@
 use common::ENTRY_WIDTH;
 use common::HEADS_WIDTH;
 use common::TERM_LIMIT;
-use dictionary_entries::entry::names;
 use dictionary_entries::initial::enter_all;
 use dictionary_entries::initial::start_refusal;
-use dictionary_layout::BUCKET_COUNT;
+use dictionary_hash::TERM_HASH_LENGTH;
+use dictionary_hash::find_entry;
+use dictionary_hash::hash_entries;
+use dictionary_hash::hash_entry;
 use dictionary_layout::Counters;
 use dictionary_layout::START_BYTES;
 use dictionary_layout::START_COUNT;
@@ -18,57 +20,20 @@ use dictionary_layout::bytes::zero_numbers;
 use dictionary_layout::hash::digest;
 ghost use mathlib.Core.Path.{_≡_};
 ghost use mathlib.Core.Bool.{false};
-ghost use Prim.Native.Nat.{_+_, _≤_, _<_};
+ghost use Prim.Native.Nat.{_+_, _≤_};
 ghost use lib.ListN.{length, replicate};
 ghost use Rattle.common.specs.Sizes.{heads-width};
-ghost use Rattle.dictionary_layout.specs.Terms.{term, start-count, start-bytes};
 ghost use Rattle.dictionary_layout.specs.Layout.{entry-at};
-ghost use Rattle.dictionary_layout.specs.Digest.{bucket-count};
 ghost use Rattle.dictionary_layout.specs.Dictionary.{valid};
 ghost use Rattle.dictionary_layout.specs.Values.{contents};
-ghost use Rattle.dictionary_valid.specs.Scanning.{Scanned, term-hash-length, Hashed, linked, Seen, Seekable, Scanning};
-ghost use Rattle.dictionary_valid.specs.Scanning.{Checked-entry, Decides, Follows, Checked-all, Scannable, Fresh-start, Begins};
-
-// The length of the hash: a head for each bucket, and a link for each entry.
-const TERM_HASH_LENGTH: usize = BUCKET_COUNT + BUCKET_COUNT;
+ghost use Rattle.dictionary_hash.specs.Hashing.{term-hash-length};
+ghost use Rattle.dictionary_valid.specs.Scanning.{Scanned, Scanning, Checked-entry, Decides, Follows, Checked-all, Scannable};
+ghost use Rattle.dictionary_valid.specs.Scanning.{Fresh-start, Begins};
 
 // Whether entries are as puts leave them, and where the bytes of the last of them end.
 pub struct CheckedEntry {
     pub ok: bool,
     pub end: usize,
-}
-
-// Whether one of the first k entries names the term, whose bucket is given.
-fn seen(
-    table: &[u32],
-    arena: &[u8],
-    hash: &[u32],
-    k: usize,
-    kind: u32,
-    bytes: &[u8],
-    bucket: usize,
-) -> bool
-    requires { ⌜ Seekable (now table) (now arena) (now hash) k (term kind (now bytes)) bucket ⌝ }
-    ensures { λ r. ⌜ Seen (now (table .entry)) (now (arena .entry)) k (term kind (now (bytes .entry))) r ⌝ }
-{
-    let mut cur = hash[bucket] as usize;
-    while cur != 0 {
-        if names(table, arena, cur - 1, kind, bytes) {
-            return true;
-        }
-        cur = hash[BUCKET_COUNT + (cur - 1)] as usize;
-    }
-    false
-}
-
-// Enters entry k in the hash: it becomes the first of its bucket.
-fn hash_entry(hash: &mut [u32], bucket: usize, k: usize)
-    requires { ⌜ (length (now hash) ≡ term-hash-length) × (bucket < bucket-count) × (k < bucket-count) ⌝ }
-    ensures { λ _. ⌜ now (hash .exit) ≡ linked (now (hash .entry)) bucket k ⌝ }
-{
-    let first = hash[bucket];
-    hash[BUCKET_COUNT + k] = first;
-    hash[bucket] = (k + 1) as u32;
 }
 
 // Whether the numbers of entry k are those of a term whose bytes begin at a place of the arena.
@@ -119,7 +84,7 @@ fn check_entry(
         if table[entry + 3] != heads[chain] {
             return broken();
         }
-        if seen(table, arena, hash, k, kind, &arena[at..end], d.bucket) {
+        if find_entry(table, arena, hash, k, kind, &arena[at..end], d.bucket) != 0 {
             return broken();
         }
         heads[chain] = k as u32;
@@ -133,22 +98,6 @@ fn broken() -> CheckedEntry
     ensures { λ r. ⌜ r .ok ≡ false ⌝ }
 {
     CheckedEntry { ok: false, end: 0 }
-}
-
-// Enters the start's entries in the hash.
-fn hash_start(table: &[u32], arena: &[u8], hash: &mut [u32], heads: &[u32])
-    requires { ⌜ Scanned (now table) (now arena) (now heads) start-count start-bytes × Hashed (now table) (now arena) (now hash) 0 ⌝ }
-    ensures { λ _. ⌜ Hashed (now (table .entry)) (now (arena .entry)) (now (hash .exit)) start-count ⌝ }
-{
-    let mut k = 0;
-    while k < START_COUNT {
-        let entry = HEADS_WIDTH + ENTRY_WIDTH * k;
-        let start = table[entry] as usize;
-        let end = start + table[entry + 1] as usize;
-        let bucket = digest(table[entry + 2], &arena[start..end]).bucket;
-        hash_entry(hash, bucket, k);
-        k += 1;
-    }
 }
 
 // Whether all entries behind the start's are as puts leave them, and where their bytes end.
@@ -226,7 +175,7 @@ fn is_valid_by(table: &[u32], arena: &[u8], counters: Counters, hash: &mut [u32]
     let mut iris = [0u8; START_BYTES];
     enter_all(&mut heads, &mut iris);
     if begins_fresh(table, arena, &heads, &iris) {
-        hash_start(table, arena, hash, &heads);
+        hash_entries(table, arena, hash, START_COUNT);
         let all = scan(table, arena, &mut heads, hash, terms);
         if all.ok {
             return ends_so(table, arena, counters, &heads, all.end);

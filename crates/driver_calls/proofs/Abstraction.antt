@@ -10,11 +10,12 @@ use Rattle.dictionary_layout.specs.Terms.{Term, start-terms, run-terms}
 use Rattle.dictionary_layout.specs.Layout.{Dict, layout}
 use Rattle.dictionary_layout.specs.Dictionary.{All-put, full, all-put, put-all, Lookup-answer, lookup-answer, abstract-lookup}
 use Rattle.dictionary_layout.specs.Calls.{start-gives, Put-result, put-result, put-laid, put-gives, lookup-gives}
-use Rattle.dictionary_layout.proofs.Holding.{Holds, holds-put}
+use Rattle.dictionary_layout.proofs.Holding.{Holds, holds-put, put-all-holds}
 use Rattle.dictionary_layout.proofs.Reachable.{on-layout, start-holds, start-leaves}
-use Rattle.driver_run.proofs.PuttingAll.{put-all-holds}
-use Rattle.driver_calls.specs.Calls.{Call, put, lookup, run-on, put-gave, lookup-gave, run-gave, Left, call-gives}
-use Rattle.driver_calls.specs.Calls.{Abstract-result, abstract-call, event, List-left, calls-give, events-of, terms-after}
+use Rattle.ntriples.specs.Reading.{read-answer, Read-result, read-laid, read-gives}
+use Rattle.ntriples.proofs.Growing.{read-keeps}
+use Rattle.driver_calls.specs.Calls.{Call, put, lookup, run-on, read-in, put-gave, lookup-gave, run-gave, read-gave, Left}
+use Rattle.driver_calls.specs.Calls.{call-gives, Abstract-result, abstract-call, event, List-left, calls-give, events-of, terms-after}
 use Rattle.driver_calls.specs.Demand3.{abstract-list}
 
 -- one call
@@ -23,7 +24,7 @@ laid tl al r = record { out = r .out; contents = layout tl al (r .held) }
 
 pub call-abstract : (tl al : ℕ) (ts : List Term) (c : Call) → Holds tl al ts
     → call-gives (layout tl al ts) c ≡ laid tl al (abstract-call tl al ts c)
-unfolding call-gives abstract-call put-gives lookup-gives run-gives
+unfolding call-gives abstract-call put-gives lookup-gives run-gives read-gives
 call-abstract tl al ts (put t) h =
     ap (λ (a : Put-result). record { out = put-gave (a .number) (a .id); contents = a .contents })
     (on-layout tl al ts (put-laid t) (λ _. put-result 1 0 (layout tl al ts)) h)
@@ -33,6 +34,9 @@ call-abstract tl al ts (lookup i) h =
 call-abstract tl al ts (run-on b) h =
     ap (λ (a : Run-result). record { out = run-gave (a .answer); contents = a .contents })
     (on-layout tl al ts (run-laid b) (λ _. record { answer = unchanged 1 b; contents = layout tl al ts }) h)
+call-abstract tl al ts (read-in l f) h =
+    ap (λ (a : Read-result). record { out = read-gave (a .answer); contents = a .contents })
+    (on-layout tl al ts (read-laid l f) (λ _. record { answer = read-answer 1 0 l; contents = layout tl al ts }) h)
 
 -- the terms held after a call can be held
 run-holds : (tl al : ℕ) (ts : List Term) (b : Lent) → Holds tl al ts → Holds tl al (abstract-run tl al ts b .held)
@@ -52,6 +56,7 @@ unfolding abstract-call
 abstract-holds tl al ts (put t) h = holds-put tl al ts t h
 abstract-holds tl al ts (lookup i) h = h
 abstract-holds tl al ts (run-on b) h = run-holds tl al ts b h
+abstract-holds tl al ts (read-in l f) h = read-keeps (Holds tl al) tl al (put-all-holds tl al) ts l f h
 
 -- THE LIST: what each call gives is as computed, and the contents are those of the terms computed
 abbrev pub abstract-from : ℕ → ℕ → List Term → List Call → List-left

@@ -22,7 +22,8 @@ use Rattle.meaning.proofs.Run.{same-dictionary}
 use Rattle.driver_run.proofs.PuttingAll.{Grown, grown-none, grown-trans, grown-length, put-grows, put-all-grows, Has, put-all-has}
 use Rattle.dictionary_run_terms.proofs.Places.{place-stays}
 use Rattle.driver_refusals.proofs.Refusing.{all-in}
-use Rattle.driver_calls.specs.Calls.{Call, put, lookup, run-on, run-gave, abstract-call, Event, event, ran, events-of}
+use Rattle.ntriples.proofs.Growing.{read-keeps}
+use Rattle.driver_calls.specs.Calls.{Call, put, lookup, run-on, read-in, run-gave, abstract-call, Event, event, ran, events-of}
 use Rattle.driver_calls.specs.Calls.{terms-after}
 use Rattle.driver_run.proofs.Accepting.{AcceptedRun, run-accepted}
 
@@ -43,6 +44,8 @@ unfolding abstract-call
 abstract-grows tl al ts (put t) = put-grows tl al ts t
 abstract-grows tl al ts (lookup i) = grown-none ts
 abstract-grows tl al ts (run-on b) = run-grows tl al ts b
+abstract-grows tl al ts (read-in l f) =
+    read-keeps (Grown ts) tl al (λ us r ws g e. grown-trans ts us ws g (put-all-grows tl al us r ws e)) ts l f (grown-none ts)
 
 pub calls-grow : (tl al : ℕ) (ts : List Term) (cs : List Call) → Grown ts (terms-after tl al ts cs)
 unfolding terms-after
@@ -112,6 +115,10 @@ first-reading tl al ts ws (put t) b o e g n =
     absurd (omega arith)
 first-reading tl al ts ws (lookup x) b o e g n =
     let f : run-on b ≡ lookup x = ap (λ (x : Event). x .call) e in
+    let z : _≡_ {A = ℕ} 0 1 = cc in
+    absurd (omega arith)
+first-reading tl al ts ws (read-in l f) b o e g n =
+    let f : run-on b ≡ read-in l f = ap (λ (x : Event). x .call) e in
     let z : _≡_ {A = ℕ} 0 1 = cc in
     absurd (omega arith)
 first-reading tl al ts ws (run-on b′) b o e g n =

@@ -18,7 +18,8 @@ use Rattle.dictionary_layout.specs.Dictionary.{all-put, put-all, Lookup-answer,
 use Rattle.common.specs.Triples.{In, if}
 use Rattle.meaning.specs.Run.{Outcome, store-full, findings-full, accepted}
 use Rattle.common.proofs.Lists.{in-nil, in-cons, and→}
-use Rattle.driver_calls.specs.Calls.{Call, put, lookup, run-on, abstract-call, Event, event, events-of, number-of}
+use Rattle.ntriples.proofs.Growing.{read-not-1}
+use Rattle.driver_calls.specs.Calls.{Call, put, lookup, run-on, read-in, abstract-call, Event, event, events-of, number-of}
 
 -- the refusals after refusal 1
 abbrev past-1 : List Refusal → Bool
@@ -84,6 +85,7 @@ unfolding abstract-call
 never-1 tl al ts (put t) = put-not-1 tl al ts t
 never-1 tl al ts (lookup i) = lookup-not-1 ts i
 never-1 tl al ts (run-on b) = run-not-1 tl al ts b
+never-1 tl al ts (read-in l f) = read-not-1 tl al ts l f
 
 pub events-unbroken : (tl al : ℕ) (ts : List Term) (cs : List Call) (e : Event) → In e (events-of tl al ts cs) → number-of (e .out) ≢ 1
 unfolding events-of

@@ -1,5 +1,5 @@
--- Lists of calls: each put, lookup and run is lent the dictionary as the call before left it. What each gives over contents, and what
--- it must give, computed from the lengths of table and arena and the calls' other arguments alone. REFERENCE 8.1 and 8.2. A further
+-- Lists of calls: each put, lookup, run and read is lent the dictionary as the call before left it. What each gives over contents, and
+-- what it must give, computed from the lengths of table and arena and the calls' other arguments alone. REFERENCE 8.1 and 8.2. A further
 -- kind of call that is lent the dictionary is one more constructor of `Call`, and a line in each definition. Assumes nothing.
 use mathlib.Core.List.{List, [], _∷_}
 use Prim.Native.Nat.{ℕ}
@@ -10,20 +10,23 @@ use Rattle.dictionary_layout.specs.Calls.{put-gives, lookup-gives}
 use Rattle.driver_refusals.specs.Lent.{Lent}
 use Rattle.driver_load.specs.Closed.{Run-answer}
 use Rattle.driver_run.specs.Run.{abstract-run, run-gives}
+use Rattle.ntriples.specs.Reading.{Read-answer, abstract-read, read-gives}
 
--- a call, with what it is lent besides the dictionary
+-- a call, with what it is lent besides the dictionary: a read its load and its file
 pub data Call : Type 0 where
   put : Term → Call
   lookup : ℕ → Call
   run-on : Lent → Call
+  read-in : (load file : List ℕ) → Call
 
 -- what it gives, and leaves in what it was lent besides the dictionary: a put its number and id
 pub data Out : Type 0 where
   put-gave : ℕ → ℕ → Out
   lookup-gave : Lookup-answer → Out
   run-gave : Run-answer → Out
+  read-gave : Read-answer → Out
 
--- OVER CONTENTS: what the contracts of put, lookup and run promise
+-- OVER CONTENTS: what the contracts of put, lookup, run and read promise
 pub record Left : Type 0 where
   pub out : Out
   pub contents : Dict
@@ -32,8 +35,10 @@ unfoldable pub call-gives : Dict → Call → Left
 call-gives d (put t) = let a = put-gives d t in record { out = put-gave (a .number) (a .id); contents = a .contents }
 call-gives d (lookup i) = record { out = lookup-gave (lookup-gives d i); contents = d }
 call-gives d (run-on b) = let a = run-gives d b in record { out = run-gave (a .answer); contents = a .contents }
+call-gives d (read-in l f) = let a = read-gives d l f in record { out = read-gave (a .answer); contents = a .contents }
 
--- COMPUTED from the terms held: urn:_, the start's, then each new one that an accepted put, or a run that passes 7, puts, in order
+-- COMPUTED from the terms held: urn:_, the start's, then each new one that an accepted put, a run that passes 7, or an accepted read
+-- puts, in order
 pub record Abstract-result : Type 0 where
   pub out : Out
   pub held : List Term
@@ -42,6 +47,7 @@ unfoldable pub abstract-call : ℕ → ℕ → List Term → Call → Abstract-r
 abstract-call tl al ts (put t) = let p = abstract-put tl al ts t in record { out = put-gave (p .number) (p .id); held = p .held }
 abstract-call tl al ts (lookup i) = record { out = lookup-gave (abstract-lookup ts i); held = ts }
 abstract-call tl al ts (run-on b) = let r = abstract-run tl al ts b in record { out = run-gave (r .answer); held = r .held }
+abstract-call tl al ts (read-in l f) = let r = abstract-read tl al ts l f in record { out = read-gave (r .answer); held = r .held }
 
 -- a call and what it gave
 pub record Event : Type 0 where
@@ -81,3 +87,4 @@ abbrev pub number-of : Out → ℕ
 number-of (put-gave n i) = n
 number-of (lookup-gave l) = l .number
 number-of (run-gave o) = o .number
+number-of (read-gave o) = o .number

@@ -12,7 +12,7 @@ use Rattle.common.proofs.Lists.{in-nil, in-cons}
 use Rattle.dictionary_layout.specs.Terms.{Term}
 use Rattle.dictionary_layout.specs.Dictionary.{same-term, place-from, place-of, id-of, abstract-put, full, all-put, if-zero, put-all}
 use Rattle.dictionary_run_terms.proofs.Places.{place-stays, put-place}
-use Rattle.dictionary_layout.proofs.Holding.{Added, put-cases, Holds, holds-put}
+use Rattle.dictionary_layout.proofs.Holding.{Added, put-cases}
 
 -- more terms behind these
 abbrev pub Grown : List Term → List Term → Type 0
@@ -68,18 +68,6 @@ put-all-has tl al ts (u ∷ r) us e t i =
         (put-all-grows tl al (abstract-put tl al ts u .held) r us e) (put-has tl al ts u q))
     go zero q e (inr j) k = k e j
     go (suc n) q e s k = let z : _≡_ {A = ℕ} 0 1 = cc in absurd (omega arith)
-
--- terms that can be held, with those put, can be held
-pub put-all-holds : (tl al : ℕ) (ts r us : List Term) → Holds tl al ts → put-all tl al ts r ≡ all-put us → Holds tl al us
-unfolding put-all
-put-all-holds tl al ts [] us h e = subst (Holds tl al) (cc) h
-put-all-holds tl al ts (t ∷ r) us h e =
-    go (abstract-put tl al ts t .number) e (put-all-holds tl al (abstract-put tl al ts t .held) r us (holds-put tl al ts t h))
-  where
-    go : (n : ℕ) → if-zero n (λ _. put-all tl al (abstract-put tl al ts t .held) r) (λ _. full) ≡ all-put us
-        → (put-all tl al (abstract-put tl al ts t .held) r ≡ all-put us → Holds tl al us) → Holds tl al us
-    go zero e k = k e
-    go (suc n) e k = let z : _≡_ {A = ℕ} 0 1 = cc in absurd (omega arith)
 
 -- at most one term more for each
 pub put-all-few : (tl al : ℕ) (ts r us : List Term) → put-all tl al ts r ≡ all-put us → length us ≤ length ts + length r

@@ -21,7 +21,7 @@ use Rattle.dictionary_run_terms.specs.declared.values.RunTermIds.{RunTermIds}
 use Rattle.dictionary_run_terms.specs.declared.values.RunTerms.{RunTerms}
 use Rattle.dictionary_layout.proofs.Choice.{if-yes, if-no}
 use Rattle.dictionary_layout.proofs.Decoding.{decode-layout}
-use Rattle.dictionary_layout.proofs.Holding.{Holds, valid→, valid-layout}
+use Rattle.dictionary_layout.proofs.Holding.{Holds, put-all-holds, valid→, valid-layout}
 use Rattle.dictionary_entries.proofs.Reading.{held, count}
 use Rattle.driver_refusals.specs.Lent.{Lent}
 use Rattle.driver_load.specs.Closed.{Run-answer, closed-answer}
@@ -30,7 +30,7 @@ use Rattle.driver_run.specs.Run.{run-gives}
 use Rattle.driver_refusals.specs.RunRefusals.{first-refusal, run-refusals}
 use Rattle.driver_load.specs.Loads.{Below, Termed, Loaded}
 use Rattle.driver_refusals.proofs.Refusing.{Unmet, unmet-all, not-not, all-in}
-use Rattle.driver_run.proofs.PuttingAll.{grown-length, put-all-grows, put-all-holds, put-all-few, put-all-below}
+use Rattle.driver_run.proofs.PuttingAll.{grown-length, put-all-grows, put-all-few, put-all-below}
 
 not-above : (a b : ℕ) → T (not (ltb a b)) → b ≤ a
 not-above a b h = ⊎-elim (λ p. p) (λ p. absurd (go (ltb a b) (lt→ltb a b p) h)) (le-or b a)

@@ -8,6 +8,7 @@ use native.Mathlib.Omega.{arith}
 use lib.Dec.{T, ltb, eqb, ltb→lt}
 use lib.ListN.{length, take}
 use borrow.Author.Tests.{eqb-true, eqb-false}
+use Rattle.common.specs.Sizes.{load-width}
 use Rattle.common.specs.Triples.{if}
 use Rattle.meaning.specs.Run.{Outcome, store-full, findings-full, accepted}
 use Rattle.dictionary_layout.specs.Terms.{Term, start-terms, run-terms}
@@ -24,14 +25,17 @@ use Rattle.driver_refusals.specs.Lent.{Lent}
 use Rattle.driver_load.specs.Closed.{outcome-answer, closed}
 use Rattle.driver_run.specs.Run.{unchanged, run-all-put, run-passed, Abstract-run-result, abstract-run, Run-result, run-laid, run-gives}
 use Rattle.driver_refusals.specs.RunRefusals.{first-refusal, run-refusals}
-use Rattle.driver_calls.specs.Calls.{Call, put, lookup, run-on, abstract-call, terms-after}
+use Rattle.ntriples.specs.Reading as reading
+use Rattle.ntriples.specs.Reading.{refused, read, read-file, read-answer, Abstract-read-result, shown, abstract-read, Read-result}
+use Rattle.ntriples.specs.Reading.{read-laid, read-gives}
+use Rattle.driver_calls.specs.Calls.{Call, put, lookup, run-on, read-in, abstract-call, terms-after}
 use Rattle.driver_calls.proofs.Abstraction.{abstract-holds}
 use Rattle.edge_bytes.specs.Bytes.{bytes-of, read-buffer, changes, left-bytes}
 use Rattle.edge_bytes.proofs.Coding.{changes-0, left-written}
 use Rattle.edge_c.specs.Calls.{left-dict, start-bytes-give, put-in-bytes, put-bytes-give, Place-answer, place-at, place-gives}
-use Rattle.edge_c.specs.Calls.{read-lent, run-in-bytes, run-bytes-give}
+use Rattle.edge_c.specs.Calls.{read-lent, run-in-bytes, run-bytes-give, read-in-bytes, read-bytes-give}
 use Rattle.edge_c.proofs.Forwarding.{length-numbers, read-whole, read-ragged}
-use Rattle.edge_byte_calls.specs.ByteCalls.{Byte-out, put-out, place-out, run-out, Byte-left, byte-call-gives, byte-event}
+use Rattle.edge_byte_calls.specs.ByteCalls.{Byte-out, put-out, place-out, run-out, read-out, Byte-left, byte-call-gives, byte-event}
 use Rattle.edge_byte_calls.specs.ByteCalls.{Byte-list-left, byte-calls-give, read-call, abstract-place, abstract-out}
 use Rattle.edge_byte_calls.specs.ByteCalls.{byte-events-of, dict-in-bytes, byte-abstract-from}
 use Rattle.edge_byte_calls.proofs.Fitting.{read-back}
@@ -69,6 +73,23 @@ run-kept tl al ts b = go (first-refusal (run-refusals (length ts) b))
     go : (n : ℕ) → kept (run-passed n tl al ts b)
     go zero = three (put-all tl al ts run-terms)
     go (suc n) = inl refl
+
+read-kept : (tl al : ℕ) (ts : List Term) (load file : List ℕ)
+    → let r = abstract-read tl al ts load file in Kept ts (r .answer .number) (r .held)
+unfolding abstract-read changes
+read-kept tl al ts load file = go (eqb (length load % load-width) 0)
+  where
+    kept : Abstract-read-result → Type 0
+    kept r = Kept ts (r .answer .number) (r .held)
+
+    ended : (o : reading.Outcome) → kept (shown ts load o)
+    ended (refused n) = inl refl
+    ended (read us xs) = inr refl
+
+    go : (b : Bool) → kept (if b (λ _. shown ts load (read-file tl al (length load / load-width) ts file))
+        (λ _. record { answer = read-answer 2 0 load; held = ts }))
+    go true = ended (read-file tl al (length load / load-width) ts file)
+    go false = inl refl
 
 module _ (tl al : ℕ) (ts : List Term) where
   abbrev d : Dict
@@ -122,7 +143,7 @@ laid tl al ts c = left (abstract-out tl al ts c) (dict-in-bytes (layout tl al (a
 
 byte-call-abstract : (tl al : ℕ) (ts : List Term) (c : Call) → Holds tl al ts
     → byte-call-gives (dict-in-bytes (layout tl al ts)) c ≡ laid tl al ts c
-unfolding byte-call-gives abstract-call abstract-out put-bytes-give run-bytes-give put-gives run-gives
+unfolding byte-call-gives abstract-call abstract-out put-bytes-give run-bytes-give read-bytes-give put-gives run-gives read-gives
 byte-call-abstract tl al ts (put t) h =
     let d = layout tl al ts in
     let p = abstract-put tl al ts t in
@@ -141,6 +162,14 @@ byte-call-abstract tl al ts (run-on b) h =
     (ap (λ (x : Dict). run-gives x m) (read-back h)
     ∙ on-layout tl al ts (run-laid m) (λ _. record { answer = unchanged 1 m; contents = d }) h)
     ∙ ap (left (abstract-out tl al ts (run-on b))) (left-laid tl al ts (r .answer .number) (r .held) (run-kept tl al ts m))
+byte-call-abstract tl al ts (read-in l f) h =
+    let d = layout tl al ts in
+    let m = read-buffer l in
+    let r = abstract-read tl al ts m f in
+    ap (λ (x : Read-result). let a = read-in-bytes (bytes-of (d .table)) l x in left (read-out (a .answer)) (a .contents))
+    (ap (λ (x : Dict). read-gives x m f) (read-back h)
+    ∙ on-layout tl al ts (read-laid m f) (λ _. record { answer = read-answer 1 0 m; contents = d }) h)
+    ∙ ap (left (abstract-out tl al ts (read-in l f))) (left-laid tl al ts (r .answer .number) (r .held) (read-kept tl al ts m f))
 
 -- THE LIST
 byte-calls-abstract : (tl al : ℕ) (ts : List Term) (cs : List Call) → Holds tl al ts

@@ -22,12 +22,12 @@ use Rattle.meaning.proofs.Counts.{found-check}
 use Rattle.meaning.proofs.Run.{Accepted, accepted→}
 use Rattle.dictionary_layout.specs.Terms.{Term, run-terms, property-term, membership-term, member-term}
 use Rattle.dictionary_layout.specs.Dictionary.{place-of, id-of}
-use Rattle.dictionary_layout.proofs.Holding.{Holds}
+use Rattle.dictionary_layout.proofs.Holding.{Holds, put-all-holds}
 use Rattle.driver_refusals.specs.Lent.{Lent}
 use Rattle.driver_load.specs.Closed.{Run-answer, containers}
 use Rattle.driver_run.specs.Run.{Abstract-run-result, abstract-run}
 use Rattle.driver_run.proofs.Accepting.{AcceptedRun, run-accepted}
-use Rattle.driver_run.proofs.PuttingAll.{grown-length, put-all-grows, put-all-holds, put-all-below}
+use Rattle.driver_run.proofs.PuttingAll.{grown-length, put-all-grows, put-all-below}
 use Rattle.driver_refusals.proofs.Refusing.{all-in}
 use Rattle.driver_calls.specs.Demand3.{answer}
 use Rattle.driver_calls.proofs.Demand3.{answer-of-accepted}

@@ -35,7 +35,8 @@ Fit-bytes (n ∷ l) = (n < 4294967296) × Fit-bytes l
 unfoldable pub read-buffer : List ℕ → List ℕ
 read-buffer b = if (eqb (length b % 4) 0) (λ _. numbers-of b) (λ _. 0 ∷ [])
 
--- whether a call that answers n may have changed a buffer: refusals 1 to 7 and 10 to 12 change none. REFERENCE 1.7
+-- whether a call that answers n may have changed a buffer, the load of a read apart: of the refusals only 8 and 9 change any.
+-- REFERENCE 1.7
 unfoldable pub changes : ℕ → Bool
 changes n = eqb n 0 || (eqb n 8 || eqb n 9)
 

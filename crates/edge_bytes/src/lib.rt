@@ -29,7 +29,7 @@ pub fn read_numbers(bytes: &[u8], numbers: &mut [u32])
 }
 
 // Writes the numbers as bytes.
-fn write_numbers(numbers: &[u32], bytes: &mut [u8])
+pub fn write_numbers(numbers: &[u32], bytes: &mut [u8])
     requires { ⌜ length (now bytes) ≡ 4 * length (now numbers) ⌝ }
     ensures { λ _. ⌜ now (bytes .exit) ≡ bytes-of (now (numbers .entry)) ⌝ }
 {

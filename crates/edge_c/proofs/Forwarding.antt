@@ -15,7 +15,7 @@ use Rattle.edge_bytes.specs.Bytes.{numbers-of, read-buffer, forwarded}
 use Rattle.driver_refusals.specs.Lent.{Lent, lent}
 use Rattle.edge_c.specs.Forwarded.{longest-load, longest-store, longest-findings, longest-work, longer-load, load-array}
 use Rattle.edge_c.specs.Forwarded.{table-forwarded, load-forwarded, store-forwarded, findings-forwarded, work-forwarded}
-use Rattle.edge_c.specs.Forwarded.{Forwarded-all, Enough}
+use Rattle.edge_c.specs.Forwarded.{full-load, full-array, full-forwarded, Forwarded-all, Enough, Forwarded-both, Enough-both}
 use Rattle.edge_bytes.proofs.Coding.{forwarded-ragged, forwarded-all, forwarded-more}
 
 pub length-numbers : (b : List ℕ) → length (numbers-of b) ≡ length b / 4
@@ -77,6 +77,9 @@ Findings-forwarded b n = Forwarded longest-findings 1 b n
 abbrev pub Work-forwarded : List ℕ → ℕ → Type 0
 Work-forwarded b n = Forwarded longest-work longest-work b n
 
+abbrev pub Full-forwarded : List ℕ → ℕ → Type 0
+Full-forwarded b n = Forwarded longest-load (full-load (length b / 4)) b n
+
 -- NUMBERS THAT SUFFICE for every buffer: for the most that are passed on, for one, and for those in place of a longer one
 pub record Suffices (most more : ℕ) (l : List ℕ) : Type 0 where
   pub room : most ≤ length l
@@ -98,9 +101,15 @@ findings-enough l h = record { room = h; one = omega arith; rest = omega arith }
 pub work-enough : (l : List ℕ) → longest-work ≤ length l → Suffices longest-work longest-work l
 work-enough l h = record { room = h; one = omega arith; rest = h }
 
+pub full-enough : (n : ℕ) (l : List ℕ) → full-array ≤ length l → Suffices longest-load (full-load n) l
+full-enough n l h = record { room = omega arith; one = omega arith; rest = omega arith }
+
 -- the numbers in place of a longer load are few
 pub few-more : (n : ℕ) → Fits w64 (longer-load n)
 few-more n = record { fits = omega arith }
+
+pub few-full : (n : ℕ) → Fits w64 (full-load n)
+few-full n = record { fits = omega arith }
 
 -- the first n numbers of l
 pub record Prefix (l : List ℕ) (n : ℕ) : Type 0 where
@@ -132,6 +141,13 @@ all-forwarded {t} {m} h table b p q r u v = record {
   work-numbers = prefix-forwarded (work-enough (m .work) (h .work-room)) (b .work) v;
 }
 
+pub both-forwarded : {t l : List ℕ} → Enough-both t l → (table load : List ℕ) {i j : ℕ} → i ≡ table-forwarded (length table)
+    → j ≡ full-forwarded (length load) → Forwarded-both (take i t) (take j l) table load
+both-forwarded {t} {l} h table load p q = record {
+  table-numbers = prefix-forwarded (table-enough t (h .table-room)) table p;
+  load-numbers = prefix-forwarded (full-enough (length load / 4) l (h .load-room)) load q;
+}
+
 -- local arrays suffice
 long-enough : {m : ℕ} (n : ℕ) → m ≤ n → m ≤ length (replicate {A = ℕ} n 0)
 long-enough {m} n h = subst (λ (k : ℕ). m ≤ k) (sym (length-replicate {A = ℕ} n 0)) h
@@ -148,6 +164,9 @@ arrays = record {
   findings-room = long-enough longest-findings (omega arith);
   work-room = long-enough longest-work (omega arith);
 }
+
+pub both-arrays : Enough-both (replicate table-limit 0) (replicate full-array 0)
+both-arrays = record { table-room = table-array; load-room = long-enough full-array (omega arith) }
 
 -- THE NUMBERS t READ from the bytes b: the bytes' own, where they are all
 pub record Read (most more : ℕ) (b t : List ℕ) : Type 0 where

@@ -3,3 +3,4 @@ pub mod Tables
 pub mod Refusals
 pub mod Runs
 pub mod Places
+pub mod Files

@@ -1,9 +1,12 @@
 -- What the C entry points give, and what each leaves in the buffers of bytes that it is lent, for all inputs: what the calls on numbers
 -- give for the numbers of the buffers, written back as bytes. REFERENCE 9. Assumes nothing.
+use mathlib.Core.Bool.{Bool, not, _||_}
 use mathlib.Core.List.{List}
 use mathlib.Core.Path.{_≡_}
 use Prim.Native.Nat.{ℕ}
+use lib.Dec.{eqb}
 use lib.ListN.{length, take, drop}
+use Rattle.common.specs.Triples.{if}
 use Rattle.dictionary_layout.specs.Terms.{Term}
 use Rattle.dictionary_layout.specs.Layout.{Dict, dict}
 use Rattle.dictionary_layout.specs.Dictionary.{Lookup-answer}
@@ -13,7 +16,8 @@ use Rattle.dictionary_index.specs.Values.{begin-at}
 use Rattle.driver_refusals.specs.Lent.{Lent, lent}
 use Rattle.driver_load.specs.Closed.{Run-answer}
 use Rattle.driver_run.specs.Run.{Run-result, run-gives}
-use Rattle.edge_bytes.specs.Bytes.{read-buffer, left-bytes}
+use Rattle.ntriples.specs.Reading.{Read-answer, read-answer, Read-result, read-gives}
+use Rattle.edge_bytes.specs.Bytes.{bytes-of, read-buffer, left-bytes}
 
 -- a dictionary whose table is bytes, as numbers
 abbrev pub read-dict : Dict → Dict
@@ -86,3 +90,26 @@ run-bytes-give d b = run-in-bytes (d .table) b (run-gives (read-dict d) (read-le
 abbrev pub run-result : ℕ → ℕ → List ℕ → List ℕ → List ℕ → List ℕ → Dict → Run-result
 run-result n count counts s f w d =
     record { answer = record { number = n; count = count; counts = counts; store = s; findings = f; work = w }; contents = d }
+
+-- READ: its load is bytes too. Refusals 1 and 2 leave the load as it was; the others, which leave the dictionary, make it zero
+unfoldable pub changes-load : ℕ → Bool
+changes-load n = not (eqb n 1 || eqb n 2)
+
+-- the bytes of a load after a read that answered n and left these numbers in it
+unfoldable pub left-load : ℕ → List ℕ → List ℕ → List ℕ
+left-load n b l = if (changes-load n) (λ _. bytes-of l) (λ _. b)
+
+-- the answer a of a read that was lent the bytes of a load
+abbrev pub load-in-bytes : List ℕ → Read-answer → Read-answer
+load-in-bytes load a = read-answer (a .number) (a .count) (left-load (a .number) load (a .load))
+
+abbrev pub read-in-bytes : List ℕ → List ℕ → Read-result → Read-result
+read-in-bytes table load r =
+    record { answer = load-in-bytes load (r .answer); contents = left-dict (r .answer .number) table (r .contents) }
+
+unfoldable pub read-bytes-give : Dict → List ℕ → List ℕ → Read-result
+read-bytes-give d load file = read-in-bytes (d .table) load (read-gives (read-dict d) (read-buffer load) file)
+
+-- the answer of a read, with all that it is lent as it is left
+abbrev pub read-result : ℕ → ℕ → List ℕ → Dict → Read-result
+read-result n count load d = record { answer = read-answer n count load; contents = d }

@@ -1,13 +1,17 @@
 -- HOW MANY NUMBERS the calls on numbers are passed for buffers of bytes: all of a buffer that may be valid, and in place of a longer one
--- so many that the call refuses them with the same number. REFERENCE 9.2. Assumes nothing.
+-- so many that the call refuses them with the same number, or, for the load of a read, reads the same into them. REFERENCE 9.2. Assumes
+-- nothing.
 use mathlib.Core.List.{List}
 use mathlib.Core.Path.{_≡_}
 use Prim.Native.Nat.{ℕ, _+_, _*_, _-_, _/_, _%_, _≤_}
 use lib.ListN.{length}
 use Rattle.common.specs.Sizes.{load-width, store-width, finding-width, load-limit, store-limit, finding-limit, entry-limit, table-limit}
 use Rattle.common.specs.Sizes.{run-terms-count, work-width}
+use Rattle.common.specs.Triples.{if}
+use Rattle.common.specs.Rows.{filled}
 use Rattle.driver_refusals.specs.Lent.{Lent}
-use Rattle.edge_bytes.specs.Bytes.{forwarded}
+use Rattle.edge_bytes.specs.Bytes.{bytes-of, forwarded}
+use Rattle.edge_c.specs.Calls.{changes-load}
 
 -- the numbers of the longest load, store and findings
 abbrev pub longest-load : ℕ
@@ -47,6 +51,17 @@ findings-forwarded n = forwarded longest-findings 1 n
 abbrev pub work-forwarded : ℕ → ℕ
 work-forwarded n = forwarded longest-work longest-work n
 
+-- no file gives more triples than the longest load has: in place of a longer one of n numbers, one of so many triples that leaves the
+-- same remainder; the most that are passed for a read's load; and the numbers for a read's load of n bytes
+abbrev pub full-load : ℕ → ℕ
+full-load n = longest-load + n % load-width
+
+abbrev pub full-array : ℕ
+full-array = full-load (load-width - 1)
+
+abbrev pub full-forwarded : ℕ → ℕ
+full-forwarded n = forwarded longest-load (full-load (n / 4)) n
+
 -- the numbers t, and those of m, are as many as a run is passed for the bytes of the table and of b
 pub record Forwarded-all (t : List ℕ) (m : Lent) (table : List ℕ) (b : Lent) : Type 0 where
   pub table-numbers : length t ≡ table-forwarded (length table)
@@ -68,3 +83,16 @@ pub record Roomy (t s f table store findings : List ℕ) : Type 0 where
   pub table-room : length table ≡ 4 * length t
   pub store-room : length store ≡ 4 * length s
   pub findings-room : length findings ≡ 4 * length f
+
+-- the same for a read: the numbers t and l, for the bytes of the table and of the load
+pub record Forwarded-both (t l table load : List ℕ) : Type 0 where
+  pub table-numbers : length t ≡ table-forwarded (length table)
+  pub load-numbers : length l ≡ full-forwarded (length load)
+
+pub record Enough-both (t l : List ℕ) : Type 0 where
+  pub table-room : table-limit ≤ length t
+  pub load-room : full-array ≤ length l
+
+-- the bytes of a load after a read that answered n and left the numbers l of those passed: they stand in front, and zeros behind them
+unfoldable pub front-load : ℕ → List ℕ → List ℕ → List ℕ
+front-load n b l = if (changes-load n) (λ _. filled b (bytes-of l)) (λ _. b)

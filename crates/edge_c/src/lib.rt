@@ -1,14 +1,17 @@
-// The C entry points: start, put, lookup and run over byte slices. Ids are little-endian. Each entry point owns the numbers that the
+// The C entry points: start, put, lookup, run and read over byte slices. Ids are little-endian. Each entry point owns the numbers that the
 // calls on numbers work on, and lends them to one function, which knows them as slices only.
 mod dictionary; // dictionary.rt: start, put and lookup
+mod read; // read.rt: read
 mod run; // run.rt: run
 mod sizes; // sizes.rt: how many numbers the calls are passed
 
 use crate::dictionary::lookup_in;
 use crate::dictionary::put_in;
 use crate::dictionary::start_in;
+use crate::read::read_in;
 use crate::run::run_in;
 use crate::sizes::FINDINGS;
+use crate::sizes::FULL_ARRAY;
 use crate::sizes::LOAD_ARRAY;
 use crate::sizes::STORE;
 use crate::sizes::WORK;
@@ -19,7 +22,7 @@ ghost use Rattle.dictionary_layout.specs.Layout.{dict};
 ghost use Rattle.dictionary_layout.specs.Calls.{start-result, put-result};
 ghost use Rattle.driver_refusals.specs.Lent.{lent};
 ghost use Rattle.edge_c.specs.Calls.{read-dict, start-bytes-give, put-bytes-give, place-answer, Places, run-bytes-give};
-ghost use Rattle.edge_c.specs.Calls.{run-result};
+ghost use Rattle.edge_c.specs.Calls.{run-result, read-result, read-bytes-give};
 
 // Starts a dictionary: refusal 4, 7 or 0. The counters are written.
 #[no_mangle]
@@ -132,4 +135,29 @@ pub extern "C" fn tablestork_run(
     let five = next.answer.counts;
     *counts = five;
     next.answer.number
+}
+
+// Reads a file: refusal 1, 2, 14, 13, 11, 7, 3 or 0. The triple count is written.
+#[no_mangle]
+pub extern "C" fn tablestork_read(
+    table: &mut [u8],
+    arena: &mut [u8],
+    terms: &mut u32,
+    used: &mut u32,
+    file: &[u8],
+    load: &mut [u8],
+    triples: &mut u32,
+) -> u32
+    ensures { λ r. ⌜ read-result r (now (triples .exit)) (now (load .exit))
+        (dict (now (table .exit)) (now (arena .exit)) (now (terms .exit)) (now (used .exit)))
+        ≡ read-bytes-give (dict (now (table .entry)) (now (arena .entry)) (now (terms .entry)) (now (used .entry)))
+        (now (load .entry)) (now (file .entry)) ⌝ }
+{
+    let mut t = [0u32; TABLE_LIMIT];
+    let mut l = [0u32; FULL_ARRAY];
+    let next = read_in(&mut t, &mut l, table, arena, *terms, *used, file, load);
+    *terms = next.counters.terms;
+    *used = next.counters.used;
+    *triples = next.count;
+    next.number
 }

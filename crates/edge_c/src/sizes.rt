@@ -24,3 +24,6 @@ pub const WORK: usize = WORK_WIDTH * (ENTRY_LIMIT + RUN_TERMS);
 pub const LONGER_LOAD: usize = LOAD + LOAD_WIDTH;
 
 pub const LOAD_ARRAY: usize = LONGER_LOAD + LOAD_WIDTH - 1;
+
+// A read fills no more than the longest load, and one that is longer is passed on as one that leaves the same remainder.
+pub const FULL_ARRAY: usize = LOAD + LOAD_WIDTH - 1;

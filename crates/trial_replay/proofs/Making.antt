@@ -16,10 +16,11 @@ use Rattle.dictionary_layout.specs.Calls.{Start-result, Put-result, start-gives
 use Rattle.dictionary_layout.proofs.Decoding.{length-span}
 use Rattle.driver_refusals.specs.Lent.{Lent, lent}
 use Rattle.driver_run.specs.Run.{Run-result, run-gives}
+use Rattle.ntriples.specs.Reading.{Read-result, read-gives}
 use Rattle.trial_buffers.specs.Memory.{cell-from, length-at, Each}
 use Rattle.trial_replay.specs.Made.{numbers-from, bytes-from, give, Held, held, answered, start-made, put-made, narrowed}
 use Rattle.trial_replay.specs.Made.{lookup-made, Run-held, run-held, run-part, run-lent, run-taken, run-made, made-on, made-lent}
-use Rattle.trial_replay.specs.Made.{made}
+use Rattle.trial_replay.specs.Made.{Read-held, read-held, read-part, read-lent, read-made, made}
 use Rattle.trial_replay.specs.Cells.{table-length-cell, arena-length-cell, term-length-cell, load-length-cell, store-length-cell}
 use Rattle.trial_replay.specs.Cells.{findings-length-cell, work-length-cell, put-kind-cell, lookup-id-cell, terms-cell, used-cell}
 use Rattle.trial_replay.specs.Cells.{id-cell, kind-cell, part-length-cell, count-cell, counts-cells, table-cells, arena-cells}
@@ -54,7 +55,7 @@ narrow-fits n h = let q = lt-ltb n 4294967296 h in rw q refl
 pub narrow-not : (n : ℕ) → 4294967296 ≤ n → 0 ≡ narrowed n
 narrow-not n h = let q = le-ltb n 4294967296 h in rw q refl
 
--- THE FOUR CALLS
+-- THE FIVE CALLS
 module _ (m table arena : List ℕ) where
   pub start-is : {s : Start-result} → s ≡ start-gives table arena → {m₁ : List ℕ} →
       m₁ ≡ answered m (s .number) (s .contents .terms) (s .contents .used) →
@@ -87,6 +88,13 @@ module _ (m table arena : List ℕ) where
     unfolding run-part
     run-is b e f = let e₁ = rw c at e in rw (f, ← e₁) refl
 
+    pub read-is : (file load : List ℕ) {r : Read-result} → r ≡ read-gives (contents table arena k) load file → {m₁ m₂ : List ℕ} →
+        m₁ ≡ set m count-cell (r .answer .count) →
+        m₂ ≡ answered m₁ (r .answer .number) (r .contents .terms) (r .contents .used) →
+        read-held (held m₂ (r .contents .table) (r .contents .arena)) (r .answer .load) ≡ read-part (held m table arena) file load
+    unfolding read-part
+    read-is file load e f g = let e₁ = rw c at e in rw (g, f, ← e₁) refl
+
 -- a run in parts of its buffers
 module _ (h : Held) where
   pub run-lent-is : (b : Lent) {l s f w : ℕ} → l ≡ length-at (h .memory) load-length-cell (length (b .load)) →
@@ -114,6 +122,21 @@ module _ (h : Held) where
   unfolding run-made
   run-made-is es ef ew e f₁ f₂ f₃ = let e₁ = rw (es, ef, ew) at e in rw (f₃, f₂, f₁, ← e₁) refl
 
+  -- a read in a part of its load
+  pub read-lent-is : (file load : List ℕ) {f l : ℕ} → f ≡ length-at (h .memory) term-length-cell (length file) →
+      l ≡ length-at (h .memory) load-length-cell (length load) → {r : Read-held} → r ≡ read-part h (take f file) (take l load) →
+      read-held (r .held) (r .load ++ drop l load) ≡ read-lent h file load
+  unfolding read-lent
+  read-lent-is file load ef el e = let e₁ = rw (ef, el) at e in rw (el, ← e₁) refl
+
+  -- which was taken from the cells and is given back
+  pub read-made-is : {file load : List ℕ} → file ≡ bytes-from (h .memory) term-cells term-room →
+      load ≡ numbers-from (h .memory) load-cells load-room → {r : Read-held} → r ≡ read-lent h file load → {m₁ : List ℕ} →
+      m₁ ≡ give (r .held .memory) load-cells (r .load) →
+      held m₁ (r .held .table) (r .held .arena) ≡ read-made h
+  unfolding read-made
+  read-made-is ef el e f₁ = let e₁ = rw (ef, el) at e in rw (f₁, ← e₁) refl
+
 -- THE CALL with a number
 module _ (call : ℕ) (h : Held) {r : Held} where
   pub on-start : call ≡ 0 → r ≡ start-made h → r ≡ made-on call h
@@ -140,14 +163,26 @@ module _ (call : ℕ) (h : Held) {r : Held} where
             let q = eq-eqb call 3 z in
             rw (q₀, q₁, q₂, q) e
 
-        pub on-none : call ≢ 3 → r ≡ h → r ≡ made-on call h
-        unfolding made-on
-        on-none z e =
-            let q₀ = ne-eqb call 0 n₀ in
-            let q₁ = ne-eqb call 1 n₁ in
-            let q₂ = ne-eqb call 2 n₂ in
-            let q = ne-eqb call 3 z in
-            rw (q₀, q₁, q₂, q) e
+        module _ (n₃ : call ≢ 3) where
+          pub on-read : call ≡ 4 → r ≡ read-made h → r ≡ made-on call h
+          unfolding made-on
+          on-read z e =
+              let q₀ = ne-eqb call 0 n₀ in
+              let q₁ = ne-eqb call 1 n₁ in
+              let q₂ = ne-eqb call 2 n₂ in
+              let q₃ = ne-eqb call 3 n₃ in
+              let q = eq-eqb call 4 z in
+              rw (q₀, q₁, q₂, q₃, q) e
+
+          pub on-none : call ≢ 4 → r ≡ h → r ≡ made-on call h
+          unfolding made-on
+          on-none z e =
+              let q₀ = ne-eqb call 0 n₀ in
+              let q₁ = ne-eqb call 1 n₁ in
+              let q₂ = ne-eqb call 2 n₂ in
+              let q₃ = ne-eqb call 3 n₃ in
+              let q = ne-eqb call 4 z in
+              rw (q₀, q₁, q₂, q₃, q) e
 
 -- on parts of table and arena
 pub made-lent-is : (call : ℕ) (h : Held) {t a : ℕ} → t ≡ length-at (h .memory) table-length-cell (length (h .table)) →

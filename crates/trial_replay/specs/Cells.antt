@@ -1,8 +1,8 @@
 -- The map of a memory: crates/trial_replay/README.md has it as a table. Assumes nothing.
 use Prim.Native.Nat.{ℕ}
 
--- the cell that holds the length of the table, of the arena, of the term, of the load, of the store, of the findings and of the list
--- work buffer
+-- the cell that holds the length of the table, of the arena, of the term, or of the file of a read, which is in its cells, of the load,
+-- of the store, of the findings and of the list work buffer
 abbrev pub table-length-cell : ℕ
 table-length-cell = 0
 
@@ -38,7 +38,8 @@ terms-cell = 9
 abbrev pub used-cell : ℕ
 used-cell = 10
 
--- the results: the number, the id of a put, the kind and the length of the part of a lookup, the count and the five counts of a run
+-- the results: the number, the id of a put, the kind and the length of the part of a lookup, the count of a run or a read, the
+-- five counts of a run
 abbrev pub number-cell : ℕ
 number-cell = 11
 

@@ -9,6 +9,7 @@ use Rattle.dictionary_layout.specs.Layout.{Dict, dict, span}
 use Rattle.dictionary_layout.specs.Calls.{start-gives, put-gives, lookup-gives}
 use Rattle.driver_refusals.specs.Lent.{Lent, lent}
 use Rattle.driver_run.specs.Run.{run-gives}
+use Rattle.ntriples.specs.Reading.{read-gives}
 use Rattle.trial_buffers.specs.Memory.{cell-from, length-at, given}
 use Rattle.trial_replay.specs.Cells.{table-length-cell, arena-length-cell, term-length-cell, load-length-cell, store-length-cell}
 use Rattle.trial_replay.specs.Cells.{findings-length-cell, work-length-cell, put-kind-cell, lookup-id-cell, terms-cell, used-cell}
@@ -114,6 +115,36 @@ run-made h =
     let m = give (give (give (r .held .memory) store-cells (r .store)) findings-cells (r .findings)) work-cells (r .work) in
     held m (r .held .table) (r .held .arena)
 
+-- what a read leaves: the memory with the dictionary, and its load
+pub record Read-held : Type 0 where
+  pub held : Held
+  pub load : List ℕ
+
+abbrev pub read-held : Held → List ℕ → Read-held
+read-held h l = record { held = h; load = l }
+
+-- READ of a file into the load that it is lent
+unfoldable pub read-part : Held → List ℕ → List ℕ → Read-held
+read-part h file load =
+    let r = read-gives (dictionary h) load file in
+    let a = r .answer in
+    read-held (left (set (h .memory) count-cell (a .count)) (a .number) (r .contents)) (a .load)
+
+-- as much of the file and of the load as the memory says, the rest of the load as it was
+unfoldable pub read-lent : Held → List ℕ → List ℕ → Read-held
+read-lent h file load =
+    let m = h .memory in
+    let l = length-at m load-length-cell (length load) in
+    let r = read-part h (take (length-at m term-length-cell (length file)) file) (take l load) in
+    read-held (r .held) (r .load ++ drop l load)
+
+-- file and load taken from the cells, the load given back to them: the file is in those of a term
+unfoldable pub read-made : Held → Held
+read-made h =
+    let m = h .memory in
+    let r = read-lent h (bytes-from m term-cells term-room) (numbers-from m load-cells load-room) in
+    held (give (r .held .memory) load-cells (r .load)) (r .held .table) (r .held .arena)
+
 -- THE CALL with a number, on what it is lent: another number makes none
 unfoldable pub made-on : ℕ → Held → Held
 made-on call h =
@@ -121,7 +152,9 @@ made-on call h =
     (λ _. start-made h)
     (λ _. if (eqb call 1)
     (λ _. put-made h (bytes-from (h .memory) term-cells term-room))
-    (λ _. if (eqb call 2) (λ _. lookup-made h) (λ _. if (eqb call 3) (λ _. run-made h) (λ _. h))))
+    (λ _. if (eqb call 2)
+    (λ _. lookup-made h)
+    (λ _. if (eqb call 3) (λ _. run-made h) (λ _. if (eqb call 4) (λ _. read-made h) (λ _. h)))))
 
 -- as much of table and arena as the memory says, the rest as it was
 unfoldable pub made-lent : ℕ → Held → Held

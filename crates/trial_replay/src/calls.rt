@@ -1,9 +1,10 @@
-// The four calls on a memory: each takes its arguments from the cells and leaves there what it gives and the buffers as they are after it.
+// The five calls on a memory: each takes its arguments from the cells and leaves there what it gives and the buffers as they are after it.
 use common::Id;
 use dictionary_index::Counters;
 use dictionary_index::lookup;
 use dictionary_index::put_by_value;
 use dictionary_index::start;
+use driver_read::read;
 use driver_run::RunAnswer;
 use driver_run::run;
 use trial_buffers::memory::cell;
@@ -19,6 +20,7 @@ ghost use Rattle.driver_refusals.specs.Lent.{lent};
 ghost use Rattle.trial_replay.specs.Cells.{terms-cell, used-cell, count-cell, counts-cells, term-cells, term-room};
 ghost use Rattle.trial_replay.specs.Made.{bytes-from, give, held, answered, start-made, put-made, narrowed, lookup-made};
 ghost use Rattle.trial_replay.specs.Made.{run-held, run-part, run-lent, run-taken, run-made, made-on, made-lent, made};
+ghost use Rattle.trial_replay.specs.Made.{read-held, read-part, read-lent, read-made};
 
 // Where each buffer begins.
 const TABLE: usize = 32;
@@ -267,6 +269,40 @@ fn make_run(memory: &mut [u32], table: &mut [u32], arena: &mut [u8])
     give_numbers(memory, WORK, &work);
 }
 
+fn read_file(memory: &mut [u32], table: &mut [u32], arena: &mut [u8], file: &[u8], load: &mut [u32])
+    ensures { λ _. ⌜ read-held (held (now (memory .exit)) (now (table .exit)) (now (arena .exit))) (now (load .exit))
+        ≡ read-part (held (now (memory .entry)) (now (table .entry)) (now (arena .entry))) (now (file .entry)) (now (load .entry)) ⌝ }
+{
+    let counters = counters_in(&*memory);
+    let next = read(table, arena, counters, file, load);
+    let left = next.counters;
+    set_cell(&mut *memory, COUNT, next.count);
+    answer(memory, next.number, left);
+}
+
+// Lends a read as much of the file and of the load as the memory says.
+fn read_lent(memory: &mut [u32], table: &mut [u32], arena: &mut [u8], file: &[u8], load: &mut [u32])
+    ensures { λ _. ⌜ read-held (held (now (memory .exit)) (now (table .exit)) (now (arena .exit))) (now (load .exit))
+        ≡ read-lent (held (now (memory .entry)) (now (table .entry)) (now (arena .entry))) (now (file .entry)) (now (load .entry)) ⌝ }
+{
+    let f = length_in(&*memory, TERM_LENGTH, file.len());
+    let l = length_in(&*memory, LOAD_LENGTH, load.len());
+    read_file(memory, table, arena, &file[..f], &mut load[..l]);
+}
+
+// The file of a read is in the cells of a term.
+fn make_read(memory: &mut [u32], table: &mut [u32], arena: &mut [u8])
+    ensures { λ _. ⌜ held (now (memory .exit)) (now (table .exit)) (now (arena .exit))
+        ≡ read-made (held (now (memory .entry)) (now (table .entry)) (now (arena .entry))) ⌝ }
+{
+    let mut file = [0u8; TERM_ROOM];
+    let mut load = [0u32; LOAD_ROOM];
+    take_bytes(&*memory, TERM, &mut file);
+    take_numbers(&*memory, LOAD, &mut load);
+    read_lent(&mut *memory, table, arena, &file, &mut load);
+    give_numbers(memory, LOAD, &load);
+}
+
 // The call with a number, on this table and arena.
 fn make_on(call: u32, memory: &mut [u32], table: &mut [u32], arena: &mut [u8])
     ensures { λ _. ⌜ held (now (memory .exit)) (now (table .exit)) (now (arena .exit))
@@ -285,7 +321,11 @@ fn make_on(call: u32, memory: &mut [u32], table: &mut [u32], arena: &mut [u8])
         return;
     }
     if call == 3 {
-        make_run(memory, table, arena);
+        make_run(&mut *memory, &mut *table, &mut *arena);
+        return;
+    }
+    if call == 4 {
+        make_read(memory, table, arena);
     }
 }
 
@@ -299,7 +339,7 @@ fn make_lent(call: u32, memory: &mut [u32], table: &mut [u32], arena: &mut [u8])
     make_on(call, memory, &mut table[..t], &mut arena[..a]);
 }
 
-// Makes the call: 0 start, 1 put, 2 lookup, 3 run; another number makes none.
+// Makes the call: 0 start, 1 put, 2 lookup, 3 run, 4 read; another number makes none.
 pub fn make(call: u32, memory: &mut [u32])
     ensures { λ _. ⌜ now (memory .exit) ≡ made call (now (memory .entry)) ⌝ }
 {

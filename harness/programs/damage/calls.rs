@@ -18,6 +18,7 @@ pub enum Call {
     Put { kind: u32, bytes: Vec<u8> },
     Lookup { id: u32 },
     Run(Run),
+    Read { file: Vec<u8>, load: Vec<u8> },
 }
 
 /// What a run is lent beside the dictionary.
@@ -43,7 +44,10 @@ pub enum By {
     Model,
 }
 
-pub const CALLS: [&str; 4] = ["start", "put", "lookup", "run"];
+pub const CALLS: [&str; 5] = ["start", "put", "lookup", "run", "read"];
+
+/// The place of a read there.
+pub const READ: usize = 4;
 
 impl Call {
     /// The place of its name in `CALLS`.
@@ -53,6 +57,7 @@ impl Call {
             Call::Put { .. } => 1,
             Call::Lookup { .. } => 2,
             Call::Run(_) => 3,
+            Call::Read { .. } => READ,
         }
     }
 }
@@ -65,6 +70,7 @@ pub fn perform(by: By, dictionary: &Dictionary, call: &Call) -> After {
         Call::Put { kind, bytes } => put(by, &mut d, *kind, bytes),
         Call::Lookup { id } => lookup(by, &d, *id),
         Call::Run(buffers) => run(by, &mut d, buffers),
+        Call::Read { file, load } => read(by, &mut d, file, load),
     };
     After { result, dictionary: d, call }
 }
@@ -106,6 +112,24 @@ fn run(by: By, d: &mut Dictionary, b: &mut Run) -> Vec<u64> {
     result
 }
 
+fn read(by: By, d: &mut Dictionary, file: &[u8], load: &mut [u8]) -> Vec<u64> {
+    let (table, arena, terms, used) = (&mut d.table, &mut d.arena, &mut d.terms, &mut d.used);
+    let (refusal, triples) = match by {
+        By::Port => port::read(port::LentToRead { table, arena, terms, used, file, load }),
+        By::Model => ours::read(ours::LentToRead { table, arena, terms, used, file, load }),
+    };
+    vec![refusal.into(), triples.into()]
+}
+
+/// A file as text, the middle of a long one left out.
+fn shown(file: &[u8]) -> String {
+    let text = |bytes: &[u8]| bytes.escape_ascii().to_string();
+    match file.len() {
+        0..=600 => text(file),
+        n => format!("{}[..]{}, {n} bytes", text(&file[..300]), text(&file[n - 300..])),
+    }
+}
+
 /// Says where two outcomes differ.
 pub fn difference(port: &After, model: &After) -> String {
     let mut text = String::new();
@@ -128,6 +152,11 @@ pub fn difference(port: &After, model: &After) -> String {
         buffer("store", &p.store, &m.store);
         buffer("findings", &p.findings, &m.findings);
         buffer("list work buffer", &p.work, &m.work);
+    }
+    if let (Call::Read { file: p_file, load: p }, Call::Read { file, load }) = (&port.call, &model.call) {
+        buffer("load", p, load);
+        buffer("file", p_file, file);
+        text += &format!("  file: {}\n", shown(file));
     }
     text
 }

@@ -1,16 +1,21 @@
 //! damage N [SEED]: N calls on valid and on damaged input, the port against the reference model, inside and outside demand 2's
 //! domain: every number of the result and every buffer, byte for byte. Exit status 1 where there is a difference.
 //!
-//! The calls come in scenarios of up to 20: a start, then puts, lookups and runs, each lent the dictionary as the one before left
-//! it; a third of them are lent a damaged copy instead. ITEM=K in the environment performs scenario K alone, and says what it does.
+//! The calls come in scenarios of up to 20: a start, then puts, lookups, runs and reads, each lent the dictionary as the one
+//! before left it; a third of them are lent a damaged copy instead, and reads also the same terms with just the room that the
+//! file needs. `damage files` goes through all changes of one byte of a small file instead (every.rs). ITEM=K in the environment performs scenario K alone, and says what it does; FIRST=1 ends at the first difference.
 
 mod broken;
 mod calls;
+mod every;
+mod files;
+mod lines;
+mod reads;
 mod scenario;
 #[path = "../support.rs"]
 mod support;
 
-use calls::{difference, perform, By, Call, Dictionary, CALLS};
+use calls::{difference, perform, By, Call, Dictionary, CALLS, READ};
 use generate::Random;
 use std::sync::Mutex;
 
@@ -22,22 +27,47 @@ const LIMITS_EVERY: u64 = 1_000;
 /// Below this many calls a run need not meet every refusal.
 const ENOUGH: u64 = 20_000;
 
+/// The refusals are numbers below this.
+const NUMBERS: usize = 15;
+
+/// Those of a read.
+const OF_A_READ: [usize; 7] = [1, 2, 3, 7, 11, 13, 14];
+
 struct Tally {
     calls: u64,
     /// By call and refusal.
-    met: [[u64; 13]; 4],
+    met: [[u64; NUMBERS]; CALLS.len()],
     /// By kind of damage: refused as broken, and not.
     damaged: Vec<[u64; 2]>,
     differences: u64,
 }
 
+impl Tally {
+    fn count(&mut self, call: &Call, damage: Option<usize>, refusal: usize) {
+        self.calls += 1;
+        self.met[call.number()][refusal] += 1;
+        if let (Some(kind), true) = (damage, call.number() > 0) {
+            self.damaged[kind][usize::from(refusal != 1)] += 1;
+        }
+    }
+
+    fn met_all(&self) -> bool {
+        (1..NUMBERS).all(|k| self.met.iter().any(|row| row[k] > 0)) && OF_A_READ.iter().all(|k| self.met[READ][*k] > 0)
+    }
+}
+
 fn main() {
+    if std::env::args().nth(1).as_deref() == Some("files") {
+        return every::main();
+    }
     let (n, seed) = support::number_and_seed("damage");
     let only: Option<u64> = std::env::var("ITEM").ok().and_then(|k| k.parse().ok());
+    let first = std::env::var_os("FIRST").is_some();
     let damaged = vec![[0; 2]; broken::KINDS.len()];
-    let tally = Mutex::new(Tally { calls: 0, met: [[0; 13]; 4], damaged, differences: 0 });
+    let tally = Mutex::new(Tally { calls: 0, met: [[0; NUMBERS]; CALLS.len()], damaged, differences: 0 });
     support::in_parallel(u64::MAX, |item| {
-        if tally.lock().expect("the tally").calls >= n || (only.is_some() && item > 0) {
+        let ended = |t: &Tally| t.calls >= n || (first && t.differences > 0);
+        if ended(&tally.lock().expect("the tally")) || (only.is_some() && item > 0) {
             return false;
         }
         scenario_of(only.unwrap_or(item), seed, n, only.is_some(), &tally);
@@ -45,17 +75,17 @@ fn main() {
     });
     let tally = tally.into_inner().expect("the tally");
     print(&tally);
-    let all_met = (1..=12).all(|k| tally.met.iter().any(|row| row[k] > 0));
-    if !all_met && n >= ENOUGH {
+    let missed = n >= ENOUGH && !tally.met_all() && !(first && tally.differences > 0);
+    if missed {
         println!("a refusal was never met");
     }
-    std::process::exit(i32::from(tally.differences > 0 || (!all_met && n >= ENOUGH)));
+    std::process::exit(i32::from(tally.differences > 0 || missed));
 }
 
 fn print(tally: &Tally) {
     println!("{} calls, {} differences", tally.calls, tally.differences);
     for (name, row) in CALLS.iter().zip(&tally.met) {
-        let met: String = (0..13).filter(|k| row[*k] > 0).map(|k| format!("  {k}: {}", row[k])).collect();
+        let met: String = (0..NUMBERS).filter(|k| row[*k] > 0).map(|k| format!("  {k}: {}", row[k])).collect();
         println!("{name:7}{met}");
     }
     println!("damaged dictionaries, refused with 1 and not:");
@@ -76,16 +106,16 @@ fn scenario_of(item: u64, seed: u64, n: u64, tell: bool, tally: &Mutex<Tally>) {
     for k in 0..CALLS_OF_A_SCENARIO {
         let call = if k == 0 && !(limits && d.terms > 7) { Call::Start } else { scenario::call(&d, &mut r) };
         let damage = (k > 0 && r.percent(33)).then(|| r.below(broken::KINDS.len()));
-        let lent = match damage {
-            Some(kind) => damaged(&d, kind, &mut r),
-            None => d.clone(),
+        let lent = match (damage, &call) {
+            (Some(kind), _) => Some(damaged(&d, kind, &mut r)),
+            (None, Call::Read { file, .. }) if !limits && r.percent(70) => reads::fitted(&d, file, &mut r),
+            (None, _) => None,
         };
         if tell {
             println!("call {k}: {}", CALLS[call.number()]);
         }
-        let (port, model) = (perform(By::Port, &lent, &call), perform(By::Model, &lent, &call));
-        let same = port == model;
-        if damage.is_none() {
+        let [port, model] = [By::Port, By::Model].map(|by| perform(by, lent.as_ref().unwrap_or(&d), &call));
+        if lent.is_none() {
             d = model.dictionary.clone();
         }
         if call == Call::Start && model.result[0] != 0 && r.percent(80) {
@@ -95,13 +125,8 @@ fn scenario_of(item: u64, seed: u64, n: u64, tell: bool, tally: &Mutex<Tally>) {
         if t.calls >= n {
             return;
         }
-        t.calls += 1;
-        let refusal = model.result[0] as usize;
-        t.met[call.number()][refusal] += 1;
-        if let (Some(kind), true) = (damage, call.number() > 0) {
-            t.damaged[kind][usize::from(refusal != 1)] += 1;
-        }
-        if !same {
+        t.count(&call, damage, model.result[0] as usize);
+        if port != model {
             t.differences += 1;
             let lent_how = damage.map_or(String::new(), |kind| format!(", damaged: {}", broken::KINDS[kind].0));
             println!("difference in scenario {item} of seed {seed}, call {k}, {}{lent_how}", CALLS[call.number()]);

@@ -1,6 +1,7 @@
 //! Random calls, on the limits and one off them.
 
 use crate::calls::{Call, Dictionary, Run};
+use crate::reads;
 use generate::{names, small, Random, FIRST};
 use model::calls::starting_triples;
 use model::dictionary::{self as dict, Term};
@@ -21,7 +22,7 @@ pub fn filled(len: usize, r: &mut Random) -> Vec<u8> {
 }
 
 /// A length, or one off it: a byte, a number or a record more or less.
-fn about(len: usize, width: usize, r: &mut Random) -> usize {
+pub fn about(len: usize, width: usize, r: &mut Random) -> usize {
     match r.below(120) {
         0 => len + 1,
         1 => len.saturating_sub(1),
@@ -83,9 +84,10 @@ pub fn laid_out(terms: &[Term], table: usize, arena: usize) -> Dictionary {
 pub fn call(d: &Dictionary, r: &mut Random) -> Call {
     match r.below(100) {
         0..=1 => Call::Start,
-        2..=36 => put(d, r),
-        37..=46 => lookup(d, r),
-        _ => Call::Run(run(d, r)),
+        2..=26 => put(d, r),
+        27..=33 => lookup(d, r),
+        34..=69 => Call::Run(run(d, r)),
+        _ => reads::read(r),
     }
 }
 
@@ -122,7 +124,7 @@ pub fn lookup(d: &Dictionary, r: &mut Random) -> Call {
 }
 
 /// The terms held, where the dictionary is none that a call refuses.
-fn held(d: &Dictionary) -> Option<Vec<Term>> {
+pub fn held(d: &Dictionary) -> Option<Vec<Term>> {
     let numbers: Vec<u32> = d.table.chunks_exact(4).map(|b| u32::from_le_bytes(b.try_into().expect("four bytes"))).collect();
     (d.table.len() % 4 == 0).then(|| dict::held(&numbers, &d.arena, d.terms, d.used)).flatten()
 }

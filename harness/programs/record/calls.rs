@@ -3,7 +3,7 @@
 use crate::memory::*;
 use crate::text::Text;
 
-/// What a lent buffer holds before a run, so that a number left alone shows.
+/// What a lent buffer holds before a run or a read, so that a number left alone shows.
 const MARK: u32 = 7;
 
 /// What a run is lent beside the dictionary: a load, and so many numbers of store, findings and list work buffer.
@@ -140,6 +140,43 @@ pub fn refuse(text: &mut Text, lent: &Lent, number: u32, after: Counters) {
     for r in [STORE, FINDINGS, WORK] {
         assert!(text.memory().lent(r).iter().all(|n| *n == left), "a buffer of {left}");
     }
+}
+
+/// Numbers of the load behind what a read is lent: it has to leave them alone.
+const BEHIND: usize = 3;
+
+/// A read of a file into a load of so many numbers that answers the number and the triple count, and leaves these counters.
+#[track_caller]
+fn read(text: &mut Text, file: &[u8], load: usize, number: u32, count: usize, after: Counters) {
+    text.change(|m| {
+        m.lend_bytes(TERM, file);
+        m.lend(LOAD, &vec![MARK; load + BEHIND]);
+        m.lend_first(LOAD, load);
+    });
+    text.call(Call::Read);
+    is_number(text, number);
+    assert_eq!(text.memory().0[COUNT] as usize, count, "the triple count");
+    counters(text, after);
+    assert_eq!(text.memory().0[LOAD.first + load..][..BEHIND], [MARK; BEHIND], "what is not lent");
+}
+
+/// A read that is accepted: the triples, then zeros.
+#[track_caller]
+pub fn read_all(text: &mut Text, file: &[u8], load: usize, triples: &[u32], after: Counters) {
+    read(text, file, load, 0, triples.len() / 3, after);
+    holds(text, LOAD, triples);
+}
+
+/// A read that is refused: the dictionary is as before, and the load too by 1 and 2, else all zero.
+#[track_caller]
+pub fn read_none(text: &mut Text, file: &[u8], load: usize, number: u32) {
+    let before = text.memory().clone();
+    read(text, file, load, number, 0, before.counters());
+    for r in [TABLE, ARENA] {
+        assert_eq!(before.lent(r), text.memory().lent(r), "a buffer changed");
+    }
+    let left = if number < 3 { MARK } else { 0 };
+    assert!(text.memory().lent(LOAD).iter().all(|n| *n == left), "a load of {left}");
 }
 
 /// The number at a place of the table.

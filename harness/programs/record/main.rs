@@ -5,6 +5,7 @@
 mod batches;
 mod calls;
 mod damage;
+mod files;
 mod index;
 mod lists;
 mod memory;
@@ -12,11 +13,12 @@ mod models;
 mod recorded;
 mod tables;
 mod text;
+mod w3c;
 
 use text::Text;
 
 /// The bytes that program trial_replay has room for.
-const ROOM: usize = 640_000;
+const ROOM: usize = 720_000;
 
 fn main() {
     let Some(folder) = std::env::args().nth(1) else {
@@ -30,6 +32,8 @@ fn main() {
     damage::lists(&mut text);
     lists::lists(&mut text);
     batches::lists(&mut text);
+    files::lists(&mut text);
+    w3c::tests(&mut text);
     let before = models::prepare(&mut text);
     models::models(&mut text, "models after the tables of OWL 2 Profiles, and lists", &cases, &before);
     models::models(&mut text, "random models inside the domain, by the original", &inside, &before);

@@ -1,4 +1,4 @@
-//! The memory that the text's calls read and write, and the four calls on it, made by the reference model.
+//! The memory that the text's calls read and write, and the five calls on it, made by the reference model.
 
 use model::calls::{self, Buffers, Dictionary};
 
@@ -88,6 +88,7 @@ pub enum Call {
     Put,
     Lookup,
     Run,
+    Read,
 }
 
 /// The dictionary that a call is lent.
@@ -120,6 +121,11 @@ pub fn perform(call: Call, m: &mut Memory) {
             m.lend_bytes(PART, &held.arena[begin..begin + length]);
         }
         Call::Run => run(held.lend(), m),
+        Call::Read => {
+            let (file, mut load) = (m.lent_bytes(TERM), m.lent(LOAD).to_vec());
+            (m.0[NUMBER], m.0[COUNT]) = calls::read(held.lend(), &file, &mut load);
+            m.lend(LOAD, &load);
+        }
     }
     m.lend(TABLE, &held.table);
     m.lend_bytes(ARENA, &held.arena);

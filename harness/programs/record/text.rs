@@ -24,6 +24,9 @@ enum Piece {
 /// A line's own bytes, about: its kind, its place, its count and its end.
 const LINE: usize = 9;
 
+/// The number in a call's place with which none is made.
+const NO_CALL: usize = 5;
+
 impl Text {
     pub fn new() -> Text {
         Text { lines: String::new(), memory: Memory::new(), saved: Memory::new(), calls: 0, printed: String::new() }
@@ -53,7 +56,7 @@ impl Text {
     pub fn expect_wrong(&mut self, at: usize) {
         let right = self.memory.0[at] as usize;
         self.line(&[1, at, 1, right + 1]);
-        self.line(&[4, 4, 1]);
+        self.line(&[4, NO_CALL, 1]);
         self.line(&[1, at, 1, right]);
     }
 

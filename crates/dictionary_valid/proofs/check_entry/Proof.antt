@@ -3,8 +3,9 @@ use Prim.Native.Nat.{_+_}
 use native.Mathlib.Omega.{arith}
 use borrow.Author.Needs.{needs}
 use Rattle.dictionary_layout.specs.Layout.{entry-at}
+use Rattle.dictionary_hash.proofs.Hashing.{read-short}
 use Rattle.dictionary_valid.proofs.Scanning.{scanned-room}
-use Rattle.dictionary_valid.proofs.Checking.{entry-broken, read-short, few, numbers-broken, chain-small, bucket-small, seekable}
+use Rattle.dictionary_valid.proofs.Checking.{entry-broken, few, numbers-broken, chain-small, bucket-small, seekable}
 use Rattle.dictionary_valid.proofs.Checking.{next-broken, seen-broken, entry-passed}
 use Rattle.dictionary_valid.proofs.check_entry.Statement.{statement}
 use Rattle.dictionary_valid.proofs.check_entry.Tie as tie
@@ -107,20 +108,20 @@ returns c =
     entry-broken (c .broken .ensures)
     (next-broken (at-start .pre .0) follows (after-digest .digest .ensures) (at-start .pre .1) (c .before .if2 .taken))
 
-sub-seen : tie.Need-sub-seen
-sub-seen c = search needs
+sub-find-entry : tie.Need-sub-find-entry
+sub-find-entry c = search needs
 
-part-seen-start : tie.Need-part-seen-start
-part-seen-start c = search needs
+part-find-entry-start : tie.Need-part-find-entry-start
+part-find-entry-start c = search needs
 
-part-seen-end : tie.Need-part-seen-end
-part-seen-end c =
+part-find-entry-end : tie.Need-part-find-entry-end
+part-find-entry-end c =
     let at-if1 = c .before .before .before .before .before .before .before .before in
     let follows = at-if1 .before .entry-follows .ensures .yes (at-if1 .if1 .taken) in
     omega (arith, follows .part)
 
-seen-requires : tie.Need-seen-requires
-seen-requires c κs =
+find-entry-requires : tie.Need-find-entry-requires
+find-entry-requires c κs =
     let after-digest = c .before .before .before .before .before in
     let at-if1 = after-digest .before .before .before .before in
     let at-start = at-if1 .before .before .before .before .before .before in
@@ -135,13 +136,13 @@ same-length c = search needs
 
 returns-2 : tie.Need-returns-2
 returns-2 c =
-    let after-seen = c .before .before in
-    let after-digest = after-seen .before .before .before .before .before .before in
+    let after-find-entry = c .before .before in
+    let after-digest = after-find-entry .before .before .before .before .before .before in
     let at-if1 = after-digest .before .before .before .before in
     let at-start = at-if1 .before .before .before .before .before .before in
     let follows = at-if1 .before .entry-follows .ensures .yes (at-if1 .if1 .taken) in
     entry-broken (c .broken2 .ensures)
-    (seen-broken (at-start .pre .0) follows (after-digest .digest .ensures) (after-seen .seen .ensures) (c .before .if3 .taken))
+    (seen-broken (at-start .pre .0) follows (after-digest .digest .ensures) (after-find-entry .find-entry .ensures) (c .before .if3 .taken))
 
 cast-heads : tie.Need-cast-heads
 cast-heads c =
@@ -184,14 +185,14 @@ returns-3 : tie.Need-returns-3
 returns-3 c =
     let after-hash-entry = c .before .before in
     let at-if3 = after-hash-entry .before .before in
-    let after-seen = at-if3 .before in
-    let at-if2 = after-seen .before .before .before in
+    let after-find-entry = at-if3 .before in
+    let at-if2 = after-find-entry .before .before .before in
     let after-digest = at-if2 .before .before .before in
     let at-if1 = after-digest .before .before .before .before in
     let at-start = at-if1 .before .before .before .before .before .before in
     let follows = at-if1 .before .entry-follows .ensures .yes (at-if1 .if1 .taken) in
     entry-passed (at-start .pre .0) follows (after-digest .digest .ensures) (at-start .pre .1) (at-if2 .if2 .left)
-    (after-seen .seen .ensures) (at-if3 .if3 .left) (after-hash-entry .hash-entry .ensures)
+    (after-find-entry .find-entry .ensures) (at-if3 .if3 .left) (after-hash-entry .hash-entry .ensures)
 
 broken-requires-3 : tie.Need-broken-requires-3
 broken-requires-3 c κs = search needs
@@ -229,10 +230,10 @@ check-entry-spec =
     slice-read-if2
     broken-requires
     returns
-    sub-seen
-    part-seen-start
-    part-seen-end
-    seen-requires
+    sub-find-entry
+    part-find-entry-start
+    part-find-entry-end
+    find-entry-requires
     broken-requires-2
     same-length
     returns-2

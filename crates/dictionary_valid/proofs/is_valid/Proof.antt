@@ -2,7 +2,7 @@
 use mathlib.Core.Path.{refl, sym}
 use Prim.Native.Nat.{ℕ}
 use lib.ListN.{length-replicate}
-use Rattle.dictionary_valid.specs.Scanning.{term-hash-length}
+use Rattle.dictionary_hash.specs.Hashing.{term-hash-length}
 use Rattle.dictionary_valid.proofs.is_valid.Statement.{statement}
 use Rattle.dictionary_valid.proofs.is_valid.Tie as tie
 

@@ -6,8 +6,9 @@ use Rattle.dictionary_layout.specs.Layout.{Dict}
 use Rattle.dictionary_layout.specs.Dictionary.{valid}
 use Rattle.dictionary_layout.specs.Values.{contents}
 use Rattle.dictionary_layout.proofs.Choice.{is-false}
-use Rattle.dictionary_valid.proofs.Hashing.{hashed-none}
+use Rattle.dictionary_hash.proofs.Hashing.{hashed-none}
 use Rattle.dictionary_valid.proofs.Beginning.{blank-fresh}
+use Rattle.dictionary_valid.proofs.Checking.{start-hashable}
 use Rattle.dictionary_valid.proofs.Validity.{other-sizes, few-terms, many-terms}
 use Rattle.dictionary_valid.proofs.is_valid_by.Statement.{statement}
 use Rattle.dictionary_valid.proofs.is_valid_by.Tie as tie
@@ -68,31 +69,28 @@ begins-fresh-requires c κs =
       bytes = ap (λ (x : Dict). x .arena) (after-enter-all .enter-all .ensures);
     }
 
-slice-aggregate-hash-start : tie.Need-slice-aggregate-hash-start
-slice-aggregate-hash-start c = search needs
-
-hash-start-requires : tie.Need-hash-start-requires
-hash-start-requires c κs =
-    let at-if4 = c .before .before in
+hash-entries-requires : tie.Need-hash-entries-requires
+hash-entries-requires c κs =
+    let at-if4 = c .before in
     let after-begins-fresh = at-if4 .before in
     let at-if3 = after-begins-fresh .before .before .before .before .before .before .before .before in
     let at-start = at-if3 .before .before .before .before .before .before .before .before in
-    (after-begins-fresh .begins-fresh .ensures .yes (at-if4 .if4 .taken), hashed-none (at-start .pre .0) (at-start .pre .1))
+    start-hashable (after-begins-fresh .begins-fresh .ensures .yes (at-if4 .if4 .taken)) (hashed-none (at-start .pre .0) (at-start .pre .1))
 
 slice-aggregate-scan : tie.Need-slice-aggregate-scan
 slice-aggregate-scan c = search needs
 
 scan-requires : tie.Need-scan-requires
 scan-requires c κs =
-    let after-hash-start = c .before .before .before .before in
-    let at-if4 = after-hash-start .before .before .before in
+    let after-hash-entries = c .before .before .before .before in
+    let at-if4 = after-hash-entries .before .before in
     let after-begins-fresh = at-if4 .before in
     let after-enter-all = after-begins-fresh .before .before .before .before .before in
     let at-if3 = after-enter-all .before .before .before in
     let at-if2 = at-if3 .before in
     record {
       scanned = after-begins-fresh .begins-fresh .ensures .yes (at-if4 .if4 .taken);
-      hashed = after-hash-start .hash-start .ensures;
+      hashed = after-hash-entries .hash-entries .ensures;
       some = at-if2 .if2 .left;
       entries = at-if3 .if3 .left;
       room = omega (arith, after-enter-all .enter-all .kept .0);
@@ -104,8 +102,8 @@ slice-aggregate-ends-so c = search needs
 ends-so-requires : tie.Need-ends-so-requires
 ends-so-requires c κs =
     let after-scan = c .before .before .before .before .before in
-    let after-hash-start = after-scan .before .before .before .before .before in
-    let after-enter-all = after-hash-start .before .before .before .before .before .before .before .before .before in (
+    let after-hash-entries = after-scan .before .before .before .before .before in
+    let after-enter-all = after-hash-entries .before .before .before .before .before .before .before .before in (
       after-scan .scan .ensures .yes (c .before .if5 .taken),
       omega (arith, after-scan .scan .kept .1 .1 .0, after-enter-all .enter-all .kept .0),
     )
@@ -122,7 +120,7 @@ same-length-2 c = search needs
 returns-5 : tie.Need-returns-5
 returns-5 c =
     let after-scan = c .before .before .before .before in
-    let after-begins-fresh = after-scan .before .before .before .before .before .before .before .before .before in
+    let after-begins-fresh = after-scan .before .before .before .before .before .before .before .before in
     let after-enter-all = after-begins-fresh .before .before .before .before .before in
     let z = after-enter-all .before .before .before .before .before .before .before .before .before .before .before in
     let d = contents (z .args .table .now) (z .args .arena .now) (z .args .counters) in
@@ -152,8 +150,7 @@ is-valid-by-spec =
     slice-aggregate-begins-fresh
     slice-aggregate-begins-fresh-2
     begins-fresh-requires
-    slice-aggregate-hash-start
-    hash-start-requires
+    hash-entries-requires
     slice-aggregate-scan
     scan-requires
     slice-aggregate-ends-so

@@ -2,7 +2,7 @@
 use borrow.Author.Needs.{needs}
 use mathlib.Core.Path.{refl}
 use Rattle.trial_replay.specs.Made.{held}
-use Rattle.trial_replay.proofs.Making.{on-start, on-put, on-lookup, on-run, on-none}
+use Rattle.trial_replay.proofs.Making.{on-start, on-put, on-lookup, on-run, on-read, on-none}
 use Rattle.trial_replay.proofs.calls.make_on.Statement.{statement}
 use Rattle.trial_replay.proofs.calls.make_on.Tie as tie
 
@@ -96,14 +96,40 @@ returns-4 c =
     on-run (args .call) (held (args .memory .now) (args .table .now) (args .arena .now)) (at-if1 .if1 .left) (at-if2 .if2 .left)
     (at-if3 .if3 .left) (at-if4 .if4 .taken) (after-make-run .make-run .ensures)
 
+make-read-requires : tie.Need-make-read-requires
+make-read-requires c κs = search needs
+
+same-length-13 : tie.Need-same-length-13
+same-length-13 c = search needs
+
+same-length-14 : tie.Need-same-length-14
+same-length-14 c = search needs
+
+same-length-15 : tie.Need-same-length-15
+same-length-15 c = search needs
+
 returns-5 : tie.Need-returns-5
 returns-5 c =
-    let at-if2 = c .before .before in
+    let after-make-read = c .before .before .before .before .before .before in
+    let at-if5 = after-make-read .before .before .before .before in
+    let at-if4 = at-if5 .before in
+    let at-if3 = at-if4 .before in
+    let at-if2 = at-if3 .before in
+    let at-if1 = at-if2 .before in
+    let at-start = at-if1 .before .before .before .before in
+    let args = at-start .args in
+    on-read (args .call) (held (args .memory .now) (args .table .now) (args .arena .now)) (at-if1 .if1 .left) (at-if2 .if2 .left)
+    (at-if3 .if3 .left) (at-if4 .if4 .left) (at-if5 .if5 .taken) (after-make-read .make-read .ensures)
+
+returns-6 : tie.Need-returns-6
+returns-6 c =
+    let at-if3 = c .before .before in
+    let at-if2 = at-if3 .before in
     let at-if1 = at-if2 .before in
     let at-start = at-if1 .before .before .before .before in
     let args = at-start .args in
     on-none (args .call) (held (args .memory .now) (args .table .now) (args .arena .now)) (at-if1 .if1 .left) (at-if2 .if2 .left)
-    (c .before .if3 .left) (c .if4 .left) refl
+    (at-if3 .if3 .left) (c .before .if4 .left) (c .if5 .left) refl
 
 pub make-on-spec : {M : Type 1} → statement M
 make-on-spec =
@@ -129,4 +155,9 @@ make-on-spec =
     same-length-11
     same-length-12
     returns-4
-    returns-5)
+    make-read-requires
+    same-length-13
+    same-length-14
+    same-length-15
+    returns-5
+    returns-6)

@@ -1,0 +1,2 @@
+pub mod Indexing
+pub mod Retracting

@@ -1,0 +1,5 @@
+pub mod Ends
+pub mod Loads
+pub mod Putting
+pub mod Outcomes
+pub mod Finish

@@ -1,0 +1,10 @@
+pub mod Cases
+pub mod Tests
+pub mod Utf8
+pub mod Tokens
+pub mod Bytes
+pub mod Sound
+pub mod Nodes
+pub mod Lines
+pub mod Growing
+pub mod Files

@@ -1,0 +1,11 @@
+pub mod Classes
+pub mod Escapes
+pub mod Parts
+pub mod Runs
+pub mod Tags
+pub mod Labels
+pub mod Writing
+pub mod Tokens
+pub mod Sound
+pub mod Quoting
+pub mod Iris
