@@ -5,12 +5,15 @@
 //!   check K     check K reports nothing            dirty       store and findings are not cleared after a refusal 8 or 9
 //!   refusal K   number K is answered as K + 1      counter     a put counts a byte too many
 //!   list NAME   lists, nil among them, are read as model::mistakes has it by that name
+//!   row NAME    rows are numbered, or a store is measured, as model::misnumberings has it by that name
 //!   reader NAME files are read as model::misreadings has it by that name
 
 use model::bytes::{self, Lent, LentToRead};
 use model::closure::Mistake;
+use model::misnumberings::MISNUMBERINGS;
 use model::misreadings::{Misreading, MISREADINGS};
 use model::mistakes;
+use model::rows::Rows;
 use std::slice::{from_raw_parts, from_raw_parts_mut};
 use std::sync::OnceLock;
 
@@ -28,28 +31,31 @@ fn fault() -> &'static Fault {
     static FAULT: OnceLock<Fault> = OnceLock::new();
     FAULT.get_or_init(|| {
         let text = std::env::var("FAULT").unwrap_or_default();
-        let number = || text.split(' ').nth(1).and_then(|k| k.parse::<u32>().ok()).expect("FAULT has a number");
+        let name = || text.split(' ').nth(1).unwrap_or("");
+        let number = || name().parse::<u32>().expect("FAULT has a number");
+        let by = |mistake: Mistake| Fault { mistake, ..Fault::default() };
         match text.split(' ').next().unwrap_or("") {
             "" => Fault::default(),
-            "rule" => leaving_out(1 << number()),
-            "zero" => leaving_out(1),
+            "rule" => by(Mistake { without: 1 << number(), ..Mistake::default() }),
+            "zero" => by(Mistake { without: 1, ..Mistake::default() }),
             "check" => Fault { check: number(), ..Fault::default() },
             "refusal" => Fault { refusal: number(), ..Fault::default() },
             "dirty" => Fault { dirty: true, ..Fault::default() },
             "counter" => Fault { counter: true, ..Fault::default() },
-            "list" => Fault { mistake: named(text.split(' ').nth(1).unwrap_or("")), ..Fault::default() },
-            "reader" => Fault { misreading: Some(misreading(text.split(' ').nth(1).unwrap_or(""))), ..Fault::default() },
+            "list" => by(named(name())),
+            "row" => by(Mistake { rows: misnumbering(name()), ..Mistake::default() }),
+            "reader" => Fault { misreading: Some(misreading(name())), ..Fault::default() },
             _ => panic!("no fault {text}"),
         }
     })
 }
 
-fn leaving_out(without: u32) -> Fault {
-    Fault { mistake: Mistake { without, ..Mistake::default() }, ..Fault::default() }
-}
-
 fn named(name: &str) -> Mistake {
     mistakes::all().find(|(n, _)| *n == name).unwrap_or_else(|| panic!("no mistake {name}")).1
+}
+
+fn misnumbering(name: &str) -> Rows {
+    MISNUMBERINGS.iter().find(|(n, _)| *n == name).unwrap_or_else(|| panic!("no misnumbering {name}")).1
 }
 
 fn misreading(name: &str) -> Misreading {

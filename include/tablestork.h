@@ -22,7 +22,7 @@ extern "C" {
 #define TABLESTORK_BROKEN_DICTIONARY 1 /* no sequence of puts after a start leaves these contents */
 #define TABLESTORK_RAGGED_LOAD 2       /* not whole triples */
 #define TABLESTORK_LOAD_TOO_LONG 3     /* over 16,384 triples; in a read also more than its load has room for */
-#define TABLESTORK_ILL_SIZED_STORE 4   /* a buffer of another length than the call takes */
+#define TABLESTORK_ILL_SIZED_STORE 4   /* a buffer of another length than the call takes; of a store, not whole rows of 20 bytes */
 #define TABLESTORK_BLANK_ID 5          /* an id 0 in the load */
 #define TABLESTORK_UNKNOWN_TERM 6      /* an id in the load that is not below the term count */
 #define TABLESTORK_DICTIONARY_FULL 7   /* entries or arena bytes do not suffice */
@@ -51,9 +51,11 @@ uint32_t tablestork_put(uint8_t *table, size_t table_len, uint8_t *arena, size_t
 uint32_t tablestork_lookup(const uint8_t *table, size_t table_len, const uint8_t *arena, size_t arena_len, uint32_t terms, uint32_t used,
                            uint32_t id, uint32_t *kind, uint64_t *begin, uint64_t *len);
 
-/* Closes a load of three numbers a triple. The store gets the answer, three numbers a triple, the findings five numbers a record, both
- * ascending and then zeros. The list work buffer has two numbers for each term, three terms more counted; it is zero afterwards. The
- * triple count and the five counts, one for each check, are written. Refusals 1 to 9. */
+/* Closes a load of three numbers a triple. The store gets the answer, a row of five numbers a triple: s, p, o, the pass in which the triple
+ * came in, and the lowest rule that gives it in that pass; both are 0 for a starting triple. The findings get five numbers a record. Rows
+ * ascend by s, p, o, findings by all five numbers; zeros follow. A store has at most 65,535 rows, 20 bytes each. The list work buffer has
+ * two numbers for each term, three terms more counted; it is zero afterwards. The triple count and the five counts, one for each check,
+ * are written. Refusals 1 to 9. */
 uint32_t tablestork_run(uint8_t *table, size_t table_len, uint8_t *arena, size_t arena_len, uint32_t *terms, uint32_t *used,
                         const uint8_t *load, size_t load_len, uint8_t *store, size_t store_len, uint8_t *findings, size_t findings_len,
                         uint8_t *work, size_t work_len, uint32_t *triples, uint32_t counts[5]);

@@ -4,11 +4,14 @@ use crate::files::{benchmark_file, file, BENCHMARK_TERMS, BENCHMARK_TRIPLES};
 use crate::large::{benchmark, large, KINDS};
 use crate::small::small;
 use crate::{word, Model, Random, FIRST};
-use model::closure::{check, close, close_mistaken, in_domain, Mistake};
+use model::closure::{check, close, close_mistaken, close_rows, in_domain, Mistake};
 use model::dictionary::{bytes_of, is_container_property, starting_terms, Term};
+use model::misnumberings::MISNUMBERINGS;
 use model::mistakes::{self, OF_NIL, READINGS};
 use model::ntriples::{line, lines, Line};
 use model::reading::Reading;
+use model::rounds::rounds;
+use model::rows::{self, triples};
 use model::{Triple, ARENA_LIMIT, ENTRIES_LIMIT, LINE_LIMIT, LOAD_LIMIT, STORE_LIMIT, TERM_LIMIT};
 
 const MODELS: u64 = 1_500;
@@ -68,7 +71,7 @@ fn by_reading(models: impl Iterator<Item = Model>) -> Vec<[u32; 2]> {
         let Some(closure) = close(&start, STORE_LIMIT, 0) else { continue };
         let outside = usize::from(!in_domain(&model.load, &closure));
         for ((_, mistake), count) in mistakes::all().zip(&mut counts) {
-            let wrong = close_mistaken(&start, STORE_LIMIT, mistake);
+            let wrong = close_mistaken(&start, STORE_LIMIT, mistake).map(|rows| triples(&rows));
             count[outside] +=
                 u32::from(wrong.is_none_or(|wrong| wrong.len() != closure.len() || answer(&wrong) != answer(&closure)));
         }
@@ -108,6 +111,54 @@ fn small_models_bring_up_list_triples_of_the_closure() {
     assert!(count >= 10, "{count}");
 }
 
+/// Closures of at most so many triples are closed in rounds: each round goes through all of it.
+const IN_ROUNDS: usize = 300;
+
+/// The closure in the order in which rows come has the passes and the rules of the closure in rounds, whatever the order of the load. Rows
+/// of late passes come up, and each rule names some.
+#[test]
+fn passes_and_rules_are_those_of_rounds() {
+    let (mut passes, mut rules, mut compared) = ([0; 6], [0; 29], 0);
+    for k in 0..MODELS {
+        let mut r = Random::item(7, k);
+        let mut start = small(&mut r).start();
+        r.shuffle(&mut start);
+        let Some(rows) = close_rows(&start, IN_ROUNDS) else { continue };
+        assert_eq!(rounds(&start), rows, "{start:?}");
+        compared += 1;
+        let last = rows.iter().map(|row| row.pass).max().unwrap_or(0);
+        passes[(last as usize).min(5)] += 1;
+        rules.iter_mut().zip(0..).for_each(|(count, rule)| *count += u32::from(rows.iter().any(|row| row.rule == rule)));
+    }
+    println!("of {compared} models, by the last pass (5: or later): {passes:?}, by the rules named: {rules:?}");
+    // In the pass in which eq-trans (8) gives a triple eq-rep-o does.
+    assert!(compared > MODELS / 2 && passes[3..].iter().all(|n| *n >= 50), "{passes:?}");
+    assert!((0..29).all(|k| if k == 8 { rules[k] == 0 } else { rules[k] >= 5 }), "{rules:?}");
+}
+
+/// What is wrong in a row comes up: each wrong numbering gives another answer, or none that fits the store. Wrong lengths of a store are
+/// damage's.
+#[test]
+fn small_models_bring_up_all_numberings() {
+    let of_rows =
+        MISNUMBERINGS.iter().filter(|(_, by)| [0, 1, 3, 5, 15].map(by.sized) == [0, 1, 3, 5, 15].map(rows::RIGHT.sized));
+    let of_rows: Vec<_> = of_rows.filter(|(name, _)| !name.contains("limit")).collect();
+    let mut counts = vec![0; of_rows.len()];
+    for k in 0..MODELS / 3 {
+        let start = small(&mut Random::item(8, k)).start();
+        let Some(closure) = close_rows(&start, IN_ROUNDS) else { continue };
+        let right = rows::answer(&closure);
+        for ((_, by), count) in of_rows.iter().zip(&mut counts) {
+            let wrong = close_mistaken(&start, closure.len(), Mistake { rows: *by, ..Mistake::default() });
+            *count += u32::from(wrong.is_none_or(|wrong| rows::answer(&wrong) != right));
+        }
+    }
+    for ((name, _), count) in of_rows.iter().zip(&counts) {
+        println!("{name}: shows in {count} models");
+    }
+    assert!(counts.iter().all(|n| *n >= 5), "{counts:?}");
+}
+
 /// Whatever the domain leaves to the original, it reads as the model does: there its own reading changes nothing.
 #[test]
 fn inside_the_domain_the_original_reads_lists_alike() {
@@ -118,7 +169,8 @@ fn inside_the_domain_the_original_reads_lists_alike() {
         let start = model.start();
         let closure = close(&start, STORE_LIMIT, 0).expect("a small closure");
         if in_domain(&model.load, &closure) {
-            assert_eq!(close_mistaken(&start, STORE_LIMIT, original), Some(closure), "{}", model.text());
+            let read_so = close_mistaken(&start, STORE_LIMIT, original).map(|rows| triples(&rows));
+            assert_eq!(read_so, Some(closure), "{}", model.text());
         }
     }
 }

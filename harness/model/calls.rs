@@ -4,6 +4,7 @@ use crate::closure::{check, close_mistaken, Mistake};
 use crate::dictionary::{self as dict, Term};
 use crate::misreadings::Misreading;
 use crate::reading::Reading;
+use crate::rows::{answer, triples};
 use crate::*;
 
 /// A table, an arena and the two counters of `put`.
@@ -92,11 +93,11 @@ pub fn read_mistaken(mut d: Dictionary, file: &[u8], load: &mut [u32], mistake: 
     let Some(terms) = d.held() else {
         return (BROKEN_DICTIONARY, 0);
     };
-    if load.len() % 3 != 0 {
+    if load.len() % LOAD_WIDTH != 0 {
         return (RAGGED_LOAD, 0);
     }
     let errs = |by: Misreading| mistake == Some(by);
-    let mut reading = Reading::new(terms, dict::entries(d.table.len()), d.arena.len(), load.len() / 3, mistake);
+    let mut reading = Reading::new(terms, dict::entries(d.table.len()), d.arena.len(), load.len() / LOAD_WIDTH, mistake);
     let refusal = reading.file(file).err().unwrap_or(0);
     if refusal == 0 || errs(Misreading::TermsLeft) {
         d.write(&reading.terms);
@@ -108,7 +109,7 @@ pub fn read_mistaken(mut d: Dictionary, file: &[u8], load: &mut [u32], mistake: 
     if refusal != 0 {
         return (refusal, if errs(Misreading::CountTold) { count } else { 0 });
     }
-    for (row, triple) in load.chunks_mut(3).zip(&reading.triples) {
+    for (row, triple) in load.chunks_mut(LOAD_WIDTH).zip(&reading.triples) {
         row.copy_from_slice(triple);
     }
     (0, count)
@@ -128,51 +129,49 @@ pub fn run(d: Dictionary, load: &[u32], b: Buffers) -> (u32, u32, [u32; 5]) {
 
 /// The same with a mistake.
 pub fn run_mistaken(mut d: Dictionary, load: &[u32], b: Buffers, mistake: Mistake) -> (u32, u32, [u32; 5]) {
-    let terms = match before_closing(&d, load, &b) {
-        Ok(terms) => terms,
+    let (terms, rows) = match before_closing(&d, load, &b, &mistake) {
+        Ok(passed) => passed,
         Err(refusal) => return (refusal, 0, [0; 5]),
     };
     d.write(&terms);
     b.store.fill(0);
     b.findings.fill(0);
     b.work.fill(0);
-    let load: Vec<Triple> = load.chunks(3).map(|t| [t[0], t[1], t[2]]).collect();
-    let Some(closure) = close_mistaken(&starting_triples(&terms, &load), b.store.len() / 3, mistake) else {
+    let load: Vec<Triple> = load.chunks(LOAD_WIDTH).map(|t| [t[0], t[1], t[2]]).collect();
+    let Some(closure) = close_mistaken(&starting_triples(&terms, &load), rows, mistake) else {
         return (STORE_FULL, 0, [0; 5]);
     };
-    let found = check(&closure);
-    if found.len() > b.findings.len() / 5 {
+    let found = check(&triples(&closure));
+    if found.len() > b.findings.len() / FINDING_WIDTH {
         return (FINDINGS_FULL, 0, [0; 5]);
     }
-    let answer: Vec<Triple> = closure.into_iter().filter(|t| !t.contains(&0)).collect();
+    let answer = answer(&closure);
     let mut counts = [0; 5];
-    for (row, triple) in b.store.chunks_mut(3).zip(&answer) {
-        row.copy_from_slice(triple);
+    for (row, record) in b.store.chunks_exact_mut(STORE_WIDTH).zip(&answer) {
+        row.copy_from_slice(&record.numbers());
     }
-    for (row, record) in b.findings.chunks_mut(5).zip(&found) {
-        row.copy_from_slice(record);
-        counts[record[0] as usize - 1] += 1;
+    for (row, finding) in b.findings.chunks_mut(FINDING_WIDTH).zip(&found) {
+        row.copy_from_slice(finding);
+        counts[finding[0] as usize - 1] += 1;
     }
     (0, answer.len() as u32, counts)
 }
 
-/// Refusals 1 to 7 of a run, in that order; else the terms with the three that it puts.
-fn before_closing(d: &Dictionary, load: &[u32], b: &Buffers) -> Result<Vec<Term>, u32> {
+/// Refusals 1 to 7 of a run, in that order; else the terms with the three that it puts, and the store's number of rows.
+fn before_closing(d: &Dictionary, load: &[u32], b: &Buffers, mistake: &Mistake) -> Result<(Vec<Term>, usize), u32> {
     let Some(mut terms) = d.held() else {
         return Err(BROKEN_DICTIONARY);
     };
-    let (known, triples) = (terms.len(), load.len() / 3);
-    let ill_sized = |length: usize, width: usize, limit: usize| length % width != 0 || length / width > limit;
-    if load.len() % 3 != 0 {
+    let (known, findings) = (terms.len(), b.findings.len());
+    if load.len() % LOAD_WIDTH != 0 {
         return Err(RAGGED_LOAD);
     }
-    if triples > LOAD_LIMIT {
+    if load.len() / LOAD_WIDTH > LOAD_LIMIT {
         return Err(LOAD_TOO_LONG);
     }
-    if ill_sized(b.store.len(), 3, STORE_LIMIT)
-        || ill_sized(b.findings.len(), 5, FINDINGS_LIMIT)
-        || b.work.len() < 2 * (known + 3)
-    {
+    let rows = (mistake.rows.sized)(b.store.len()).ok_or(ILL_SIZED_STORE)?;
+    let findings_sized = findings % FINDING_WIDTH == 0 && findings / FINDING_WIDTH <= FINDINGS_LIMIT;
+    if !findings_sized || b.work.len() < 2 * (known + 3) {
         return Err(ILL_SIZED_STORE);
     }
     if load.contains(&0) {
@@ -187,7 +186,7 @@ fn before_closing(d: &Dictionary, load: &[u32], b: &Buffers) -> Result<Vec<Term>
         }
     }
     if d.fits(&terms) {
-        Ok(terms)
+        Ok((terms, rows))
     } else {
         Err(DICTIONARY_FULL)
     }

@@ -7,11 +7,14 @@ pub mod calls;
 pub mod closure;
 pub mod dictionary;
 pub mod lists;
+pub mod misnumberings;
 pub mod misreadings;
 pub mod mistakes;
 pub mod names;
 pub mod ntriples;
 pub mod reading;
+pub mod rounds;
+pub mod rows;
 
 #[cfg(test)]
 mod read_tests;
@@ -38,6 +41,11 @@ pub const TERM_TOO_LONG: u32 = 11;
 pub const NO_SUCH_ID: u32 = 12;
 pub const BAD_LINE: u32 = 13;
 pub const LONG_LINE: u32 = 14;
+
+/// Numbers of a load's triple, of a store's row and of a finding.
+pub const LOAD_WIDTH: usize = 3;
+pub const STORE_WIDTH: usize = 5;
+pub const FINDING_WIDTH: usize = 5;
 
 pub const LOAD_LIMIT: usize = 16_384;
 pub const STORE_LIMIT: usize = 65_535;

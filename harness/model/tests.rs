@@ -1,10 +1,12 @@
 //! The worked cases of docs/REFERENCE.md, 11, with their values.
 
 use crate::calls::{self, Buffers, Dictionary};
-use crate::closure::{close, in_domain};
+use crate::closure::{close, close_mistaken, close_rows, in_domain, Mistake};
 use crate::dictionary::{is_container_property, layout, starting_terms, Term};
 use crate::lists::{members, Cells};
+use crate::misnumberings::MISNUMBERINGS;
 use crate::mistakes::READINGS;
+use crate::rounds::rounds;
 use crate::*;
 
 #[derive(Clone, Debug, PartialEq, Eq)]
@@ -40,28 +42,35 @@ impl Owned {
 struct Outcome {
     refusal: u32,
     counts: [u32; 5],
+    rows: Vec<[u32; 5]>,
     answer: Vec<Triple>,
     found: Vec<Finding>,
 }
 
-/// Runs a load over named nodes urn:t1 to urn:t5 with a store for this many triples and findings for this many records.
-fn run(load: &[Triple], triples: usize, records: usize) -> Outcome {
+/// Runs a load over named nodes urn:t1 to urn:t5 with a store for this many triples and this many findings.
+fn run(load: &[Triple], triples: usize, findings: usize) -> Outcome {
     let mut d = Owned::with_terms(5);
-    let (mut store, mut findings, mut work) = (vec![7; 3 * triples], vec![7; 5 * records], vec![7; 2 * (36 + 3)]);
+    let (mut store, mut findings, mut work) = (vec![7; 5 * triples], vec![7; 5 * findings], vec![7; 2 * (36 + 3)]);
     let lent = Buffers { store: &mut store, findings: &mut findings, work: &mut work };
     let (refusal, n, counts) = calls::run(d.lend(), &load.concat(), lent);
     assert!(work.iter().all(|w| *w == 0));
     assert_eq!(d.terms, 39);
-    let answer: Vec<Triple> = store.chunks(3).map(|t| [t[0], t[1], t[2]]).collect();
-    let found: Vec<Finding> = findings.chunks(5).map(|f| [f[0], f[1], f[2], f[3], f[4]]).collect();
-    assert!(answer[n as usize..].iter().flatten().all(|w| *w == 0));
-    assert!(found[counts.iter().sum::<u32>() as usize..].iter().flatten().all(|w| *w == 0));
-    Outcome {
-        refusal,
-        counts,
-        answer: answer[..n as usize].to_vec(),
-        found: found[..counts.iter().sum::<u32>() as usize].to_vec(),
-    }
+    let fives = |numbers: &[u32]| numbers.chunks(5).map(|r| [r[0], r[1], r[2], r[3], r[4]]).collect::<Vec<_>>();
+    let (mut rows, mut found) = (fives(&store), fives(&findings));
+    assert!(rows.split_off(n as usize).iter().flatten().all(|w| *w == 0));
+    assert!(found.split_off(counts.iter().sum::<u32>() as usize).iter().flatten().all(|w| *w == 0));
+    let answer = rows.iter().map(|r| [r[0], r[1], r[2]]).collect();
+    Outcome { refusal, counts, rows, answer, found }
+}
+
+/// The rows of an empty load: subject, predicate, object, pass and rule.
+const EMPTY_ROWS: [[u32; 5]; 4] = [[9, 1, 9, 1, 1], [9, 1, 30, 0, 0], [10, 1, 9, 1, 1], [10, 1, 30, 0, 0]];
+
+/// The rows that a load leaves, those of the empty load not counted, which have to be there.
+fn rows_of(load: &[Triple]) -> Vec<[u32; 5]> {
+    let rows = run(load, 60, 9).rows;
+    assert_eq!(rows[..4], EMPTY_ROWS);
+    rows[4..].to_vec()
 }
 
 const EMPTY: [Triple; 4] = [[9, 1, 9], [9, 1, 30], [10, 1, 9], [10, 1, 30]];
@@ -80,6 +89,87 @@ fn subclass() {
     nine.extend([[31, 1, 9], [31, 1, 32], [31, 1, 33], [32, 1, 9], [32, 8, 33]]);
     assert_eq!(run(&load, 9, 0).answer, nine);
     assert_eq!(run(&load, 8, 0).refusal, STORE_FULL);
+}
+
+/// A row has the pass in which its triple came in, and the rule that gave it.
+#[test]
+fn passes_and_rules() {
+    assert_eq!(run(&[], 4, 0).rows, EMPTY_ROWS);
+    let five = [[31, 1, 9, 1, 1], [31, 1, 32, 0, 0], [31, 1, 33, 1, 14], [32, 1, 9, 1, 1], [32, 8, 33, 0, 0]];
+    assert_eq!(rows_of(&[[31, 1, 32], [32, 8, 33]]), five);
+    let ten = [
+        [[31, 1, 9, 1, 1], [31, 1, 19, 0, 0], [32, 1, 9, 1, 1], [32, 31, 33, 0, 0], [33, 1, 9, 2, 1]],
+        [[33, 11, 33, 1, 9], [34, 1, 9, 1, 1], [34, 31, 35, 0, 0], [35, 1, 9, 2, 1], [35, 11, 35, 1, 9]],
+    ];
+    assert_eq!(rows_of(&[[31, 1, 19], [32, 31, 33], [34, 31, 35]]), ten.concat());
+    let eight = [
+        [[31, 1, 9, 1, 1], [31, 1, 20, 0, 0], [32, 1, 9, 1, 1], [32, 11, 32, 1, 10]],
+        [[32, 31, 33, 0, 0], [34, 1, 9, 1, 1], [34, 11, 34, 1, 10], [34, 31, 35, 0, 0]],
+    ];
+    assert_eq!(rows_of(&[[31, 1, 20], [32, 31, 33], [34, 31, 35]]), eight.concat());
+    let of_a_list = rows_of(&[[31, 21, 32], [32, 2, 33], [32, 3, 4], [34, 1, 33]]);
+    assert_eq!(of_a_list[5..], [[34, 1, 9, 1, 1], [34, 1, 31, 1, 21], [34, 1, 33, 0, 0]]);
+}
+
+/// Rule 17 gives 31 1 33 in the pass in which rule 14 does, and rule 16 gives 32 8 33, which is a starting triple. Where the load does
+/// not have 32 8 33, rule 14 comes a pass later than 17.
+#[test]
+fn the_lowest_rule_of_the_first_pass() {
+    let ten = [
+        [[31, 1, 9, 1, 1], [31, 1, 32, 0, 0], [31, 1, 33, 1, 14], [32, 1, 9, 1, 1], [32, 8, 32, 2, 15]],
+        [[32, 8, 33, 0, 0], [32, 18, 33, 0, 0], [33, 1, 9, 2, 1], [33, 8, 32, 1, 16], [33, 8, 33, 2, 15]],
+    ];
+    for load in [[[31, 1, 32], [32, 8, 33], [32, 18, 33]], [[32, 18, 33], [32, 8, 33], [31, 1, 32]]] {
+        assert_eq!(rows_of(&load), ten.concat());
+    }
+    let ten = [
+        [[31, 1, 9, 1, 1], [31, 1, 32, 0, 0], [31, 1, 33, 1, 17], [32, 1, 9, 1, 1], [32, 8, 32, 2, 15]],
+        [[32, 8, 33, 1, 16], [32, 18, 33, 0, 0], [33, 1, 9, 2, 1], [33, 8, 32, 1, 16], [33, 8, 33, 2, 15]],
+    ];
+    assert_eq!(rows_of(&[[31, 1, 32], [32, 18, 33]]), ten.concat());
+}
+
+/// 31, 32 and 33 are equal. Rules 7 and 8 both give 31 11 33 in the first pass; 33 is a subject, and so a Thing, a pass later than 31 and
+/// 32, and rule 5 gives that too.
+#[test]
+fn passes_of_equal_terms() {
+    let twelve = [
+        [[31, 1, 9, 1, 1], [31, 11, 31, 2, 5], [31, 11, 32, 0, 0], [31, 11, 33, 1, 7]],
+        [[32, 1, 9, 1, 1], [32, 11, 31, 1, 4], [32, 11, 32, 1, 5], [32, 11, 33, 0, 0]],
+        [[33, 1, 9, 2, 1], [33, 11, 31, 2, 4], [33, 11, 32, 1, 4], [33, 11, 33, 1, 5]],
+    ];
+    for load in [[[31, 11, 32], [32, 11, 33]], [[32, 11, 33], [31, 11, 32]]] {
+        assert_eq!(rows_of(&load), twelve.concat());
+    }
+}
+
+/// A pass reads what was there when it began: 31 8 35 is of the second, as 31 8 33 and 33 8 35 are of the first, and what is a 31 is a 35
+/// in the third.
+#[test]
+fn passes_of_a_chain() {
+    let start = [[34, 8, 35], [40, 1, 31], [32, 8, 33], [33, 8, 34], [31, 8, 32]];
+    let rows: Vec<[u32; 5]> = close_rows(&start, 99).expect("a small closure").iter().map(|row| row.numbers()).collect();
+    let twenty = [
+        vec![[31, 1, 9, 1, 1], [31, 8, 32, 0, 0], [31, 8, 33, 1, 15], [31, 8, 34, 2, 15], [31, 8, 35, 2, 15]],
+        vec![[32, 1, 9, 1, 1], [32, 8, 33, 0, 0], [32, 8, 34, 1, 15], [32, 8, 35, 2, 15]],
+        vec![[33, 1, 9, 1, 1], [33, 8, 34, 0, 0], [33, 8, 35, 1, 15], [34, 1, 9, 1, 1], [34, 8, 35, 0, 0]],
+        vec![[40, 1, 9, 1, 1], [40, 1, 31, 0, 0], [40, 1, 32, 1, 14], [40, 1, 33, 2, 14], [40, 1, 34, 2, 14], [40, 1, 35, 3, 14]],
+    ];
+    assert_eq!(rows, twenty.concat());
+}
+
+/// What is loaded is a starting triple, also where the empty load would bring it; where Thing is an intersection of nil rule 1 is the
+/// lower one.
+#[test]
+fn starting_triples_have_no_rule() {
+    let rows = run(&[[9, 1, 9], [31, 1, 9], [31, 32, 33]], 60, 0).rows;
+    assert_eq!(
+        rows,
+        [[9, 1, 9, 0, 0], [9, 1, 30, 0, 0], [10, 1, 9, 1, 1], [10, 1, 30, 0, 0], [31, 1, 9, 0, 0], [31, 32, 33, 0, 0]]
+    );
+    let rows = run(&[[9, 21, 4], [31, 32, 33]], 60, 0).rows;
+    assert_eq!(rows[..3], [[9, 1, 9, 1, 1], [9, 1, 30, 0, 0], [9, 21, 4, 0, 0]]);
+    assert_eq!(rows[5..], [[31, 1, 9, 1, 1], [31, 32, 33, 0, 0]]);
 }
 
 #[test]
@@ -214,6 +304,7 @@ fn intersection_of_nil() {
     ];
     assert_eq!(run(&load, 15, 0).answer, fifteen.concat());
     assert_eq!(run(&load, 14, 0).refusal, STORE_FULL);
+    assert_eq!(rows_of_subject(&run(&load, 15, 0), 35), [[35, 1, 9, 1, 1], [35, 1, 32, 1, 21], [35, 1, 33, 0, 0]]);
 }
 
 /// Nil's own list triples are not read: rules 22 and 23 give nothing for it.
@@ -248,9 +339,49 @@ fn intersection_of_nil_has_0() {
     let load = [[31, 1, 19], [32, 31, 33], [34, 31, 35], [35, 21, 4]];
     assert_eq!(run(&load, 25, 0).answer.len(), 22);
     assert_eq!(run(&load, 24, 0).refusal, STORE_FULL);
-    let carried = [[31, 21, 4], [31, 23, 32], [31, 27, 7], [32, 5, 33], [33, 23, 34], [33, 27, 32], [32, 6, 35]];
-    let answer = |zero: &[Triple]| run(&[&carried, zero].concat(), 60, 0).answer;
-    assert!(answer(&[[35, 25, 33], [35, 27, 1]]).contains(&[34, 1, 35]) && !answer(&[]).contains(&[34, 1, 35]));
+    let answer = |zero: &[Triple]| run(&[&CARRIED, zero].concat(), 60, 0).answer;
+    assert!(answer(&ZERO).contains(&[34, 1, 35]) && !answer(&[]).contains(&[34, 1, 35]));
+}
+
+const CARRIED: [Triple; 7] = [[31, 21, 4], [31, 23, 32], [31, 27, 7], [32, 5, 33], [33, 23, 34], [33, 27, 32], [32, 6, 35]];
+const ZERO: [Triple; 2] = [[35, 25, 33], [35, 27, 1]];
+
+/// Triples with an id 0 have passes like any other: here passes 3 to 6 bring nothing else.
+#[test]
+fn passes_of_zero_triples() {
+    let start = [&CARRIED[..], &ZERO, &[[9, 1, 30], [10, 1, 30]]].concat();
+    let rows = close_rows(&start, 99).expect("a small closure");
+    let of_subject = |s: u32| rows.iter().filter(|row| row.triple[0] == s).map(|row| row.numbers()).collect::<Vec<_>>();
+    let eight = [
+        [[0, 0, 0, 1, 28], [0, 1, 9, 2, 1], [0, 1, 31, 2, 21], [0, 1, 33, 5, 2]],
+        [[0, 1, 35, 5, 3], [0, 7, 32, 3, 24], [0, 32, 0, 4, 11], [0, 32, 34, 6, 24]],
+    ];
+    assert_eq!(of_subject(0), eight.concat());
+    let four = [[34, 1, 9, 8, 1], [34, 1, 31, 8, 21], [34, 1, 35, 7, 3], [34, 7, 32, 9, 24]];
+    assert_eq!(of_subject(34), four);
+    assert_eq!(rows_of_subject(&run(&[&CARRIED[..], &ZERO].concat(), 60, 0), 34), four);
+    assert!(rows.iter().all(|row| row.triple[0] == 0 || row.pass < 3 || row.pass > 6));
+}
+
+fn rows_of_subject(outcome: &Outcome, s: u32) -> Vec<[u32; 5]> {
+    outcome.rows.iter().copied().filter(|row| row[0] == s).collect()
+}
+
+/// Each wrong numbering differs from the right one, in the rows or in the room of a store.
+#[test]
+fn wrong_numberings() {
+    // The lower of rules 14 and 17 is found first for 33, last for 36.
+    let equal = [[31, 1, 32], [32, 8, 33], [32, 18, 33], [34, 1, 35], [35, 18, 36], [35, 8, 36]];
+    let moved = |t: &Triple| t.map(|id| if id > 30 { id + 10 } else { id });
+    let start: Vec<Triple> = equal.into_iter().chain(CARRIED.iter().chain(&ZERO).map(moved)).collect();
+    let right = close_rows(&start, 99).expect("a small closure");
+    let sizes = [0, 1, 2, 3, 4, 5, 15, 5 * 65_535, 5 * 65_536, 15 * 65_535];
+    for (name, rows) in MISNUMBERINGS {
+        let wrong = close_mistaken(&start, 99, Mistake { rows: *rows, ..Mistake::default() });
+        let sized = |by: &rows::Rows| sizes.map(by.sized);
+        assert!(wrong.is_none_or(|wrong| wrong != right) || sized(rows) != sized(&rows::RIGHT), "{name}");
+    }
+    assert_eq!(rounds(&start), right);
 }
 
 /// Rules read the lists of the load, whatever list triples follow.
@@ -328,12 +459,13 @@ fn container_axioms() {
     let mut d = Owned::with_terms(2);
     let name = b"http://www.w3.org/1999/02/22-rdf-syntax-ns#_7";
     assert_eq!(calls::put(d.lend(), 1, name), (0, 33));
-    let (mut store, mut work) = (vec![0; 3 * 20], vec![0; 2 * 37]);
+    let (mut store, mut work) = (vec![0; 5 * 20], vec![0; 2 * 37]);
     let lent = Buffers { store: &mut store, findings: &mut [], work: &mut work };
     let (refusal, n, _) = calls::run(d.lend(), &[31, 33, 32], lent);
     assert_eq!((refusal, n), (0, 11));
-    for triple in [[33, 1, 34], [33, 1, 35], [33, 7, 36], [31, 36, 32]] {
-        assert!(store.chunks(3).any(|t| t == triple));
+    // The axioms are starting triples.
+    for row in [[33, 1, 34, 0, 0], [33, 1, 35, 0, 0], [33, 7, 36, 0, 0], [31, 36, 32, 1, 11], [33, 1, 9, 1, 1]] {
+        assert!(store.chunks(5).any(|r| r == row), "{row:?}");
     }
 }
 
@@ -397,17 +529,21 @@ fn refusals_of_a_run_in_their_order() {
     };
     assert_eq!(refusal(&[0, 1], 1, 1, 0), RAGGED_LOAD);
     assert_eq!(refusal(&[0; 3 * 16_385], 1, 1, 0), LOAD_TOO_LONG);
-    assert_eq!(refusal(&[0; 3 * 16_384], 3, 5, 0), ILL_SIZED_STORE);
-    assert_eq!(refusal(&[99, 0, 1], 1, 5, 70), ILL_SIZED_STORE);
-    assert_eq!(refusal(&[99, 0, 1], 3, 1, 70), ILL_SIZED_STORE);
-    assert_eq!(refusal(&[99, 0, 1], 3, 5, 69), ILL_SIZED_STORE);
-    assert_eq!(refusal(&[99, 0, 1], 3 * 65_536, 5, 70), ILL_SIZED_STORE);
-    assert_eq!(refusal(&[99, 0, 1], 3, 5 * 65_536, 70), ILL_SIZED_STORE);
-    assert_eq!(refusal(&[99, 1, 1, 1, 1, 0], 3, 5, 70), BLANK_ID);
-    assert_eq!(refusal(&[31, 1, 32], 3, 5, 70), UNKNOWN_TERM);
-    assert_eq!(refusal(&[31, 1, 10], 0, 0, 70), STORE_FULL);
-    assert_eq!(refusal(&[31, 1, 10], 18, 0, 70), FINDINGS_FULL);
-    assert_eq!(refusal(&[31, 1, 10], 18, 5, 70), 0);
+    assert_eq!(refusal(&[0; 3 * 16_384], 5, 5, 0), ILL_SIZED_STORE);
+    for store in [1, 2, 3, 4, 6, 9, 12, 28, 29, 31, 33, 5 * 65_535 - 1, 5 * 65_535 + 1, 5 * 65_536, 3 * 65_535 + 2] {
+        assert_eq!(refusal(&[99, 0, 1], store, 5, 70), ILL_SIZED_STORE, "{store}");
+    }
+    assert_eq!(refusal(&[99, 0, 1], 5, 1, 70), ILL_SIZED_STORE);
+    assert_eq!(refusal(&[99, 0, 1], 5, 5, 69), ILL_SIZED_STORE);
+    assert_eq!(refusal(&[99, 0, 1], 5, 5 * 65_536, 70), ILL_SIZED_STORE);
+    assert_eq!(refusal(&[99, 1, 1, 1, 1, 0], 5, 5, 70), BLANK_ID);
+    assert_eq!(refusal(&[99, 1, 1, 1, 1, 0], 5 * 65_535, 5, 70), BLANK_ID);
+    assert_eq!(refusal(&[31, 1, 32], 5, 5, 70), UNKNOWN_TERM);
+    for store in [0, 5, 25] {
+        assert_eq!(refusal(&[31, 1, 10], store, 0, 70), STORE_FULL);
+    }
+    assert_eq!(refusal(&[31, 1, 10], 30, 0, 70), FINDINGS_FULL);
+    assert_eq!(refusal(&[31, 1, 10], 30, 5, 70), 0);
 }
 
 /// A run puts all three of its terms or none; those held already need no room.
@@ -418,7 +554,7 @@ fn room_for_the_three_terms_of_a_run() {
         if member_first {
             calls::put(d.lend(), 1, b"http://www.w3.org/2000/01/rdf-schema#member");
         }
-        let (mut store, mut work) = (vec![0; 12], vec![0; 100]);
+        let (mut store, mut work) = (vec![0; 20], vec![0; 100]);
         let lent = Buffers { store: &mut store, findings: &mut [], work: &mut work };
         (calls::run(d.lend(), &[], lent).0, d.terms)
     };

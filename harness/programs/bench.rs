@@ -1,14 +1,16 @@
 //! bench MODEL...: for each file in program closer's input format, without its limits, a line `ratio NAME R`.
 //!
 //! R is the port's time for `run` alone over the original's for `reason` alone: the median of RUNS runs each, alternating, each
-//! on a fresh dictionary and cleared buffers. A second line has the times and sizes. The port's answer has to be the original's; for a
-//! model outside the original's domain it has to be the reference model's, and a third line says that the original's is not held to it.
+//! on a fresh dictionary and cleared buffers. A second line has the times and sizes. The port's triples have to be the original's; for a
+//! model outside the original's domain they have to be the reference model's, and a third line says that the original's are not held to
+//! it. Passes and rules have to be the reference model's.
 
 mod support;
 
 use generate::{names, Model};
-use model::closure::{close, in_domain};
-use model::{Triple, FINDINGS_LIMIT, STORE_LIMIT};
+use model::closure::{close_rows, in_domain};
+use model::rows::{answer, triples, Record};
+use model::{FINDINGS_LIMIT, STORE_LIMIT};
 use std::time::{Duration, Instant};
 use tablestork::Buffers;
 
@@ -37,21 +39,20 @@ fn read(file: &str) -> Model {
     Model { terms: names(count), load: lines.map(triple).collect() }
 }
 
-/// The answer that is due, and for a model outside the original's domain what is to be said of the original's own.
-fn due(model: &Model) -> (Vec<Triple>, Option<String>) {
+/// The rows that are due, and for a model outside the original's domain what is to be said of the original's own answer.
+fn due(file: &str, model: &Model) -> (Vec<[u32; 5]>, Option<String>) {
     let reference = original::close(&model.terms, &model.load);
-    if in_domain(&model.load, &reference.original.closure()) {
-        return (reference.triples, None);
-    }
-    let closure = close(&model.start(), STORE_LIMIT, 0).unwrap_or_default();
-    let answer: Vec<Triple> = closure.into_iter().filter(|t| !t.contains(&0)).collect();
-    let compared = if answer == reference.triples { "the same as" } else { "other than" };
+    let rows = answer(&close_rows(&model.start(), STORE_LIMIT).unwrap_or_default());
+    let same = triples(&rows) == reference.triples;
+    let inside = in_domain(&model.load, &reference.original.closure());
+    assert!(same || !inside, "{file}: the reference model's answer is not the original's");
+    let compared = if same { "the same as" } else { "other than" };
     let said = format!(
         "  outside the original's domain: its answer, of {} triples, is {compared} the reference model's, of {}, which is due",
         reference.triples.len(),
-        answer.len()
+        rows.len()
     );
-    (answer, Some(said))
+    (rows.iter().map(Record::numbers).collect(), (!inside).then_some(said))
 }
 
 /// Tells whether the port's answer is the one that is due.
@@ -60,7 +61,7 @@ fn bench(file: &str) -> bool {
     let model = read(file);
     let dictionary = support::laid_out_dictionary(&model);
     let mut buffers = Buffers::new(&model.load, STORE_LIMIT, FINDINGS_LIMIT, dictionary.work_length());
-    let (answer, said) = due(&model);
+    let (rows, said) = due(file, &model);
     let (mut ours, mut theirs, mut same) = (Vec::new(), Vec::new(), true);
     for _ in 0..RUNS {
         buffers.clear();
@@ -70,7 +71,10 @@ fn bench(file: &str) -> bool {
         ours.push(clock.elapsed());
         theirs.push(original::close(&model.terms, &model.load).took);
         match result {
-            Ok((count, counts)) => same &= buffers.closed(count, counts).triples == answer,
+            Ok((count, counts)) => {
+                let closed = buffers.closed(count, counts);
+                same &= closed.records.iter().map(|record| record.numbers()).eq(rows.iter().copied());
+            }
             Err(refusal) => {
                 println!("{name}: refused, {refusal:?}");
                 return false;

@@ -2,13 +2,15 @@
 //! outside it, met on the way, are compared with the reference model, beside the N.
 //!
 //! Compared are the triples, the findings as a set after each record is put into the original's message text, the counts, the
-//! number of terms, and the sizes at which store and findings just suffice. Exit status 1 where there is a difference.
+//! number of terms, and the sizes at which store and findings just suffice. The original has no passes: the pass and the rule of each row
+//! are compared with the reference model's, whose triples have to be the measure's. Exit status 1 where there is a difference.
 //! ONLY=small or ONLY=large in the environment leaves the others out.
 
 mod support;
 
 use generate::{large::large, small::small, Model, Random, FIRST};
-use model::closure::{check, close, in_domain, names_inverse_functional};
+use model::closure::{check, close_rows, in_domain, names_inverse_functional};
+use model::rows::{answer, triples, Record};
 use model::{Triple, FINDINGS_LIMIT, STORE_LIMIT};
 use original::{Closed as Reference, Original};
 use std::collections::BTreeSet;
@@ -97,9 +99,10 @@ fn compare(name: &str, n: u64, model: impl Fn(u64) -> Model + Sync, make: Make) 
 }
 
 fn judge(model: &Model, make: Make) -> (Measure, Verdict) {
-    let (by, reference) = measured(model);
+    let (by, reference, closure) = measured(model);
     let refused = reference.closure > STORE_LIMIT || reference.messages.len() > FINDINGS_LIMIT;
-    let verdict = match catch_unwind(AssertUnwindSafe(|| same(model, by, &reference, make))) {
+    let rows = || closure.as_ref().map(|closure| answer(closure));
+    let verdict = match catch_unwind(AssertUnwindSafe(|| same(model, by, &reference, rows(), make))) {
         Ok(Ok(())) => Verdict::Same { refused },
         Ok(Err(how)) => Verdict::Differs { how },
         Err(_) => Verdict::Differs { how: "a panic".to_string() },
@@ -107,42 +110,41 @@ fn judge(model: &Model, make: Make) -> (Measure, Verdict) {
     (by, verdict)
 }
 
-/// The original's outcome inside the domain, else the reference model's. A model is inside by the original's closure exactly if it is by
-/// the reference model's: inside, each step of one is a step of the other, and what leads outside is in either closure.
-fn measured(model: &Model) -> (Measure, Reference) {
-    // The original pairs each statement of an inverse functional property with each, which takes long: there the reference model goes
-    // first, and where its closure is above a store it decides.
-    if names_inverse_functional(&model.load) {
-        let closure = close(&model.start(), STORE_LIMIT, 0);
-        if closure.as_ref().is_none_or(|c| !in_domain(&model.load, c)) {
-            return (Measure::Model, by_the_model(model, closure));
-        }
+/// The original's outcome inside the domain, else the reference model's; and the rows of the reference model's closure, where a store holds
+/// them. A model is inside by the original's closure exactly if it is by the reference model's: inside, each step of one is a step of the
+/// other, and what leads outside is in either closure.
+fn measured(model: &Model) -> (Measure, Reference, Option<Vec<Record>>) {
+    let closure = close_rows(&model.start(), STORE_LIMIT);
+    let outside = |closure: &Vec<Record>| !in_domain(&model.load, &triples(closure));
+    // The original pairs each statement of an inverse functional property with each, which takes long: where the reference model's closure
+    // is above a store it decides.
+    if names_inverse_functional(&model.load) && closure.as_ref().is_none_or(outside) {
+        return (Measure::Model, by_the_model(model, closure.as_deref()), closure);
     }
     let reference = original::close(&model.terms, &model.load);
     if in_domain(&model.load, &reference.original.closure()) {
-        return (Measure::Original, reference);
+        return (Measure::Original, reference, closure);
     }
-    (Measure::Model, by_the_model(model, close(&model.start(), STORE_LIMIT, 0)))
+    (Measure::Model, by_the_model(model, closure.as_deref()), closure)
 }
 
 /// What the reference model gives, in the form of the original's outcome; the original only keeps the terms, for message texts.
-fn by_the_model(model: &Model, closure: Option<Vec<Triple>>) -> Reference {
+fn by_the_model(model: &Model, closure: Option<&[Record]>) -> Reference {
     let mut original = Original::new();
     for (kind, bytes) in &model.terms_of_a_run()[FIRST as usize..] {
         original.put(*kind, bytes);
     }
-    let size = closure.as_ref().map_or(STORE_LIMIT + 1, Vec::len);
     let rows = closure.unwrap_or_default();
     Reference {
-        triples: rows.iter().copied().filter(|t| !t.contains(&0)).collect(),
-        messages: check(&rows).into_iter().map(|f| original.message(f)).collect(),
-        closure: size,
+        triples: triples(&answer(rows)),
+        messages: check(&triples(rows)).into_iter().map(|f| original.message(f)).collect(),
+        closure: closure.map_or(STORE_LIMIT + 1, <[Record]>::len),
         took: Duration::ZERO,
         original,
     }
 }
 
-fn same(model: &Model, by: Measure, reference: &Reference, make: Make) -> Result<(), String> {
+fn same(model: &Model, by: Measure, reference: &Reference, rows: Option<Vec<Record>>, make: Make) -> Result<(), String> {
     let before = make(model)?;
     let (store, findings) = (reference.closure, reference.messages.len());
     let run = |triples: usize, records: usize| {
@@ -163,6 +165,7 @@ fn same(model: &Model, by: Measure, reference: &Reference, make: Make) -> Result
     let (result, terms) = run(store, findings);
     let closed = result.map_err(|r| format!("a store of {store} and findings of {findings} suffice, refused: {r:?}"))?;
     same_answer(&closed, by, reference)?;
+    same_rows(&closed, &rows.ok_or("the reference model's closure is above a store")?)?;
     if reference.original.get(terms).is_some() || reference.original.get(terms - 1).is_none() {
         return Err(format!("{terms} terms after the run, not as many as in {}", by.name()));
     }
@@ -180,9 +183,10 @@ fn apart(what: &str, port: BTreeSet<String>, by: Measure, reference: BTreeSet<St
 }
 
 fn same_answer(closed: &Closed, by: Measure, reference: &Reference) -> Result<(), String> {
-    if closed.triples != reference.triples {
+    let triples = closed.triples();
+    if triples != reference.triples {
         let text = |list: &[Triple]| list.iter().map(|[s, p, o]| format!("{s} {p} {o}")).collect();
-        return Err(apart("triples", text(&closed.triples), by, text(&reference.triples)));
+        return Err(apart("triples", text(&triples), by, text(&reference.triples)));
     }
     let messages: BTreeSet<(u32, String)> = closed.findings.iter().map(|f| reference.original.message(*f)).collect();
     if messages != reference.messages {
@@ -198,6 +202,17 @@ fn same_answer(closed: &Closed, by: Measure, reference: &Reference) -> Result<()
     }
     if !closed.findings.windows(2).all(|w| w[0] < w[1]) {
         return Err("findings do not ascend".to_string());
+    }
+    Ok(())
+}
+
+/// All five numbers of each row.
+fn same_rows(closed: &Closed, rows: &[Record]) -> Result<(), String> {
+    let port: Vec<[u32; 5]> = closed.records.iter().map(|record| record.numbers()).collect();
+    let model: Vec<[u32; 5]> = rows.iter().map(Record::numbers).collect();
+    if port != model {
+        let text = |list: &[[u32; 5]]| list.iter().map(|[s, p, o, n, k]| format!("{s} {p} {o}, pass {n}, rule {k}")).collect();
+        return Err(apart("passes and rules", text(&port), Measure::Model, text(&model)));
     }
     Ok(())
 }

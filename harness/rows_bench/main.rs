@@ -1,6 +1,7 @@
-// Measures crates rows and sort beside Rust's own on the same rows in one run: sorting beside sort_unstable, appending with repeats
-// beside HashSet. Both take turns, a time is the best of them, and what both leave is compared. Times are the thread's own, so that
-// other work on the machine counts little. From the repository's root:
+// Measures crates store_rows and store_sort beside Rust's own on the same rows in one run: sorting beside sort_unstable, appending with
+// repeats beside HashSet. Rows of a store, s p o pass rule, are told apart and put in order by s, p and o. Both take turns, a time is the
+// best of them, and what both leave is compared. Times are the thread's own, so that other work on the machine counts little. From the
+// repository's root:
 //     rt staticlib trial_rows_bench
 //     rustc --edition 2021 -O -o target/rows_bench -L target/staticlib -l static=trial_rows_bench harness/rows_bench/main.rs && target/rows_bench
 use std::collections::HashSet;
@@ -25,6 +26,40 @@ use clock::clock;
 
 const ROWS: usize = 65_535;
 const TURNS: usize = 30;
+
+// A row of a store, and a finding.
+type Row = [u32; 5];
+
+// What is put in order: rows of a store by their first three numbers, findings by all five.
+#[derive(Clone, Copy)]
+enum Kind {
+    Store,
+    Findings,
+}
+
+impl Kind {
+    fn name(self) -> &'static str {
+        match self {
+            Kind::Store => "rows",
+            Kind::Findings => "findings",
+        }
+    }
+
+    fn sort(self, rows: &mut [Row]) {
+        match self {
+            Kind::Store => rows.sort_unstable_by_key(|r| [r[0], r[1], r[2]]),
+            Kind::Findings => rows.sort_unstable(),
+        }
+    }
+
+    // Of a store's row pass and rule come with the triple, so that rows of one triple are the same.
+    fn row(self, [s, p, o, c, d]: Row) -> Row {
+        match self {
+            Kind::Store => [s, p, o, (s ^ o) % 9, (p ^ o) % 29],
+            Kind::Findings => [s, p, o, c, d],
+        }
+    }
+}
 
 struct Random(u64);
 
@@ -59,52 +94,54 @@ fn beside<A, B>(
     (least, last, rust_least, rust_last)
 }
 
-fn sort_here(buf: &mut [u32], width: usize, n: usize) {
-    match width {
-        3 => unsafe { rows_bench_sort_triples(buf.as_mut_ptr(), buf.len(), n) },
-        _ => unsafe { rows_bench_sort_findings(buf.as_mut_ptr(), buf.len(), n) },
+fn sort_here(buf: &mut [u32], kind: Kind, n: usize) {
+    match kind {
+        Kind::Store => unsafe { rows_bench_sort_triples(buf.as_mut_ptr(), buf.len(), n) },
+        Kind::Findings => unsafe { rows_bench_sort_findings(buf.as_mut_ptr(), buf.len(), n) },
     }
 }
 
-fn sort<const W: usize>(name: &str, rows: &[[u32; W]]) {
+fn sort(kind: Kind, name: &str, rows: &[Row]) {
     let flat = rows.concat();
     let (here, ours, rust, theirs) =
-        beside(|| flat.clone(), |b| sort_here(b, W, rows.len()), || rows.to_vec(), |v: &mut Vec<[u32; W]>| v.sort_unstable());
+        beside(|| flat.clone(), |b| sort_here(b, kind, rows.len()), || rows.to_vec(), |v| kind.sort(v));
     assert!(ours == theirs.concat(), "{name}: not the rows that Rust leaves");
-    println!("sort   width {W} {name:36} {here:7.3} ms, sort_unstable {rust:7.3} ms, ratio {:6.2}", here / rust);
+    println!("sort   {:8} {name:36} {here:7.3} ms, sort_unstable {rust:7.3} ms, ratio {:6.2}", kind.name(), here / rust);
 }
 
-fn sorts<const W: usize>(random: &mut Random) {
-    let mut draw = |subjects: u32, predicates: u32, others: u32| -> Vec<[u32; W]> {
-        let bound = |i| if i == 0 { subjects } else if i == 1 { predicates } else { others };
-        (0..ROWS).map(|_| std::array::from_fn(|i| random.below(bound(i)))).collect()
+fn sorts(kind: Kind, random: &mut Random) {
+    let mut draw = |subjects: u32, predicates: u32, others: u32| -> Vec<Row> {
+        let bounds = [subjects, predicates, others, others, others];
+        (0..ROWS).map(|_| kind.row(bounds.map(|bound| random.below(bound)))).collect()
     };
-    sort("random numbers", &draw(u32::MAX, u32::MAX, u32::MAX));
-    sort("random ids", &draw(65_536, 65_536, 65_536));
-    sort("300 subjects, 30 predicates", &draw(300, 30, 65_536));
+    sort(kind, "random numbers", &draw(u32::MAX, u32::MAX, u32::MAX));
+    sort(kind, "random ids", &draw(65_536, 65_536, 65_536));
+    sort(kind, "300 subjects, 30 predicates", &draw(300, 30, 65_536));
     let mut rows = draw(20_000, 30, 20_000);
-    sort("20,000 subjects, 30 predicates", &rows);
+    sort(kind, "20,000 subjects, 30 predicates", &rows);
     rows.sort_unstable();
-    sort("in order", &rows);
-    sort("in order but for the first", &[&rows[1..], &rows[..1]].concat());
+    sort(kind, "in order", &rows);
+    sort(kind, "in order but for the first", &[&rows[1..], &rows[..1]].concat());
     for runs in [2, 16, 300] {
-        let runs_of: Vec<[u32; W]> = (0..runs).flat_map(|k| rows.iter().skip(k).step_by(runs)).copied().collect();
-        sort(&format!("in {runs} runs, each in order"), &runs_of);
+        let runs_of: Vec<Row> = (0..runs).flat_map(|k| rows.iter().skip(k).step_by(runs)).copied().collect();
+        sort(kind, &format!("in {runs} runs, each in order"), &runs_of);
     }
     rows.sort_unstable_by_key(|r| (r[1], r[0]));
-    sort("in order of predicates", &rows);
+    sort(kind, "in order of predicates", &rows);
     rows.sort_unstable_by(|a, b| b.cmp(a));
-    sort("in descending order", &rows);
-    sort("all the same", &[[5; W]; ROWS]);
+    sort(kind, "in descending order", &rows);
+    sort(kind, "all the same", &[[5; 5]; ROWS]);
 }
 
+// Starting triples: the rows to append have pass 0 and rule 0, five numbers each as those of the store.
 fn append(name: &str, rows: &[[u32; 3]]) {
-    let flat = rows.concat();
+    let flat: Vec<u32> = rows.concat();
     let (here, (store, _, count), rust, set) = beside(
-        || (vec![0u32; 3 * ROWS], vec![0u32; 131_072], 0),
+        || (vec![0u32; 5 * ROWS], vec![0u32; 131_072], 0),
         |(store, hash, count)| {
             let (s, h) = (store.len(), hash.len());
-            *count = unsafe { rows_bench_append(flat.as_ptr(), flat.len(), store.as_mut_ptr(), s, hash.as_mut_ptr(), h, rows.len()) };
+            *count =
+                unsafe { rows_bench_append(flat.as_ptr(), flat.len(), store.as_mut_ptr(), s, hash.as_mut_ptr(), h, rows.len()) };
         },
         HashSet::new,
         |s: &mut HashSet<[u32; 3]>| {
@@ -113,7 +150,7 @@ fn append(name: &str, rows: &[[u32; 3]]) {
             }
         },
     );
-    let ours: HashSet<[u32; 3]> = store[..3 * count].chunks(3).map(|r| [r[0], r[1], r[2]]).collect();
+    let ours: HashSet<[u32; 3]> = store[..5 * count].chunks(5).map(|r| [r[0], r[1], r[2]]).collect();
     assert!(count == set.len() && ours == set, "{name}: not the rows that the set has");
     println!("append {name:44} {count:5} kept {here:7.3} ms, HashSet {rust:7.3} ms, ratio {:6.2}", here / rust);
 }
@@ -134,14 +171,13 @@ fn appends(random: &mut Random) {
 fn main() {
     let mut random = Random(88_172_645_463_325_252);
     for n in 0..300 {
-        let before: Vec<u32> = (0..3 * n + 4).map(|_| random.below(6)).collect();
-        let mut after = before.clone();
-        sort_here(&mut after, 3, n);
-        let mut rows: Vec<&[u32]> = before[..3 * n].chunks(3).collect();
-        rows.sort();
-        assert!(after[..3 * n] == rows.concat() && after[3 * n..] == before[3 * n..], "{n} rows");
+        let mut rows: Vec<Row> = (0..n + 1).map(|_| Kind::Store.row(std::array::from_fn(|_| random.below(6)))).collect();
+        let mut after = rows.concat();
+        sort_here(&mut after, Kind::Store, n);
+        rows[..n].sort();
+        assert!(after == rows.concat(), "{n} rows");
     }
-    sorts::<3>(&mut random);
-    sorts::<5>(&mut random);
+    sorts(Kind::Store, &mut random);
+    sorts(Kind::Findings, &mut random);
     appends(&mut random);
 }

@@ -1,4 +1,4 @@
-//! The port as a safe Rust crate: an owned dictionary, and reads and runs that hand back owned triples.
+//! The port as a safe Rust crate: an owned dictionary, reads that hand back owned triples, and runs that hand back owned rows.
 //!
 //! A call of the port needs some megabytes of stack for its tables; `with_stack` gives a thread enough.
 
@@ -9,6 +9,32 @@ mod tests;
 
 pub type Triple = [u32; 3];
 pub type Finding = [u32; 5];
+
+/// A row of a store: a triple, the pass in which it came in, and the lowest rule that gives it in that pass. A starting triple has pass 0
+/// and rule 0, also where a rule gives it too.
+#[derive(Clone, Copy, Debug, PartialEq, Eq, Hash)]
+pub struct Record {
+    pub triple: Triple,
+    pub pass: u32,
+    pub rule: u32,
+}
+
+impl Record {
+    /// As the store has it: s, p, o, pass, rule.
+    pub fn numbers(&self) -> [u32; 5] {
+        let [s, p, o] = self.triple;
+        [s, p, o, self.pass, self.rule]
+    }
+
+    fn of([s, p, o, pass, rule]: [u32; 5]) -> Record {
+        Record { triple: [s, p, o], pass, rule }
+    }
+}
+
+/// Bytes of a load's triple, of a store's row and of a finding.
+const TRIPLE_BYTES: usize = 4 * 3;
+const RECORD_BYTES: usize = 4 * 5;
+const FINDING_BYTES: usize = 4 * 5;
 
 /// The refusals, by their numbers in docs/REFERENCE.md, 1.5.
 #[derive(Clone, Copy, Debug, PartialEq, Eq, Hash)]
@@ -85,12 +111,19 @@ pub struct Dictionary {
     used: u32,
 }
 
-/// An accepted run's answer and findings, each strictly ascending, and the count of each check.
+/// An accepted run's answer and findings, each strictly ascending, rows by their triples, and the count of each check.
 #[derive(Clone, Debug, PartialEq, Eq)]
 pub struct Closed {
-    pub triples: Vec<Triple>,
+    pub records: Vec<Record>,
     pub findings: Vec<Finding>,
     pub counts: [u32; 5],
+}
+
+impl Closed {
+    /// The triples alone, without passes and rules: what may be loaded again.
+    pub fn triples(&self) -> Vec<Triple> {
+        self.records.iter().map(|record| record.triple).collect()
+    }
 }
 
 impl Dictionary {
@@ -129,9 +162,9 @@ impl Dictionary {
         2 * (self.terms as usize + 3)
     }
 
-    /// Closes a load into a store for this many triples, with findings for this many records.
-    pub fn run(&mut self, load: &[Triple], triples: usize, records: usize) -> Result<Closed, Refusal> {
-        let mut buffers = Buffers::new(load, triples, records, self.work_length());
+    /// Closes a load into a store of this many rows, five numbers each, with room for this many findings.
+    pub fn run(&mut self, load: &[Triple], rows: usize, findings: usize) -> Result<Closed, Refusal> {
+        let mut buffers = Buffers::new(load, rows, findings, self.work_length());
         let (count, counts) = self.run_in(&mut buffers)?;
         Ok(buffers.closed(count, counts))
     }
@@ -177,7 +210,7 @@ pub struct Load(Vec<u8>);
 
 impl Load {
     pub fn new(triples: usize) -> Load {
-        Load(vec![0; 12 * triples])
+        Load(vec![0; TRIPLE_BYTES * triples])
     }
 
     /// What an accepted read left.
@@ -195,11 +228,12 @@ pub struct Buffers {
 }
 
 impl Buffers {
-    pub fn new(load: &[Triple], triples: usize, records: usize, work: usize) -> Buffers {
+    /// A store of so many rows, room for so many findings, and a list work buffer of so many numbers.
+    pub fn new(load: &[Triple], rows: usize, findings: usize, work: usize) -> Buffers {
         Buffers {
             load: to_bytes(load.as_flattened()),
-            store: vec![0; 12 * triples],
-            findings: vec![0; 20 * records],
+            store: vec![0; RECORD_BYTES * rows],
+            findings: vec![0; FINDING_BYTES * findings],
             work: vec![0; 4 * work],
         }
     }
@@ -212,8 +246,9 @@ impl Buffers {
 
     /// What an accepted run left.
     pub fn closed(&self, count: u32, counts: [u32; 5]) -> Closed {
-        let records = counts.iter().sum::<u32>() as usize;
-        Closed { triples: rows(&self.store, count as usize), findings: rows(&self.findings, records), counts }
+        let found = counts.iter().sum::<u32>() as usize;
+        let records = rows(&self.store, count as usize).into_iter().map(Record::of).collect();
+        Closed { records, findings: rows(&self.findings, found), counts }
     }
 }
 

@@ -18,11 +18,49 @@ fn closes_a_load() {
     with_stack(|| {
         let mut d = started();
         let closed = d.run(&[[31, 1, 32], [32, 8, 33]], 9, 0).expect("accepted");
-        let nine =
-            [[9, 1, 9], [9, 1, 30], [10, 1, 9], [10, 1, 30], [31, 1, 9], [31, 1, 32], [31, 1, 33], [32, 1, 9], [32, 8, 33]];
-        assert_eq!(closed, Closed { triples: nine.to_vec(), findings: vec![], counts: [0; 5] });
+        let nine = [
+            [[9, 1, 9, 1, 1], [9, 1, 30, 0, 0], [10, 1, 9, 1, 1], [10, 1, 30, 0, 0]].as_slice(),
+            &[[31, 1, 9, 1, 1], [31, 1, 32, 0, 0], [31, 1, 33, 1, 14], [32, 1, 9, 1, 1], [32, 8, 33, 0, 0]],
+        ];
+        let records = nine.concat().into_iter().map(Record::of).collect();
+        assert_eq!(closed, Closed { records, findings: vec![], counts: [0; 5] });
         assert_eq!(d.terms(), 39);
         assert_eq!(d.run(&[[31, 1, 32], [32, 8, 33]], 8, 0), Err(Refusal::StoreFull));
+    })
+}
+
+/// The pass in which a row came in, and the lowest rule of that pass. What a run gave is a starting triple where it is loaded.
+#[test]
+fn names_passes_and_rules() {
+    with_stack(|| {
+        let mut d = started();
+        let closed = d.run(&[[31, 1, 32], [32, 8, 33], [32, 18, 33]], 14, 0).expect("accepted");
+        let ten = [
+            [[31, 1, 9, 1, 1], [31, 1, 32, 0, 0], [31, 1, 33, 1, 14], [32, 1, 9, 1, 1], [32, 8, 32, 2, 15]],
+            [[32, 8, 33, 0, 0], [32, 18, 33, 0, 0], [33, 1, 9, 2, 1], [33, 8, 32, 1, 16], [33, 8, 33, 2, 15]],
+        ];
+        assert_eq!(closed.records[4..].iter().map(Record::numbers).collect::<Vec<_>>(), ten.concat());
+        let again = d.run(&closed.triples(), 14, 0).expect("accepted");
+        assert_eq!(again.triples(), closed.triples());
+        assert!(again.records.iter().all(|record| (record.pass, record.rule) == (0, 0)));
+    })
+}
+
+/// A store is rows of five numbers, 20 bytes each.
+#[test]
+fn refuses_stores() {
+    with_stack(|| {
+        let before = started();
+        for bytes in [1, 4, 12, 16, 19, 21, 24, 36, 72, 12 * 65_534, 20 * 65_535 - 1, 20 * 65_535 + 1, 20 * 65_536] {
+            let (mut d, mut b) = (before.clone(), Buffers::new(&[], 0, 0, before.work_length()));
+            b.store = vec![7; bytes];
+            assert_eq!(d.run_in(&mut b), Err(Refusal::IllSizedStore), "{bytes}");
+            assert!(d == before && b.store.iter().all(|byte| *byte == 7), "{bytes}");
+        }
+        let (full, four) = (Err(Refusal::StoreFull), Ok((4, [0; 5])));
+        for (rows, due) in [(0, full), (1, full), (3, full), (4, four), (5, four), (65_535, four)] {
+            assert_eq!(before.clone().run_in(&mut Buffers::new(&[], rows, 0, before.work_length())), due, "{rows}");
+        }
     })
 }
 
@@ -112,7 +150,7 @@ fn reads_files() {
             <urn:t2> <http://www.w3.org/2000/01/rdf-schema#subClassOf> <urn:t3> .\n";
         let load = d.read(classes, 2).expect("accepted");
         assert_eq!(load, [[31, 1, 32], [32, 8, 33]]);
-        assert!(d.run(&load, 9, 0).expect("accepted").triples.contains(&[31, 1, 33]));
+        assert!(d.run(&load, 9, 0).expect("accepted").triples().contains(&[31, 1, 33]));
     })
 }
 
@@ -167,4 +205,12 @@ fn reads_with_four_megabytes() {
     let thread = std::thread::Builder::new().stack_size(4 << 20);
     let read = thread.spawn(move || Dictionary::start(65_535, 1_048_576)?.read(file.as_bytes(), 16_384)).expect("a thread");
     assert_eq!(read.join().expect("no panic"), Ok(vec![[31, 32, 33]; 9]));
+}
+
+/// The header says that a run needs a stack of 11 MB, however long its buffers are.
+#[test]
+fn runs_with_eleven_megabytes() {
+    let thread = std::thread::Builder::new().stack_size(11 << 20);
+    let run = thread.spawn(|| started().run(&[[31, 1, 32], [32, 8, 33]], 65_535, 65_535)).expect("a thread");
+    assert_eq!(run.join().expect("no panic").map(|closed| closed.records.len()), Ok(9));
 }

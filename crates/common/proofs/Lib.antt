@@ -2,6 +2,7 @@ pub mod Lists
 pub mod Choice
 pub mod Lex
 pub mod Order
+pub mod RowLists
 pub mod Rows
 pub mod Last
 pub mod Widths

@@ -51,7 +51,9 @@ module _ {A : Type 0} (key : A → List ℕ) where
           go (inl e) = absurd (not-before-self z (subst (λ w. Before key w z) (sym heads ∙ sym e) (b .0 z i)))
           go (inr h) = h
 
-module _ {A : Type 0} (key : A → List ℕ) (tells : Tells key) where
+-- an element put in by any key, also one that does not tell elements apart: of elements with one key the first is kept
+module _ {A : Type 0} (key : A → List ℕ) where
+  -- what stands there then was put in or stood there,
   pub in-insert→ : (x : A) (ys : List A) {z : A} → In z (insert key x ys) → (z ≡ x) ⊎ In z ys
   unfolding insert
   in-insert→ x [] h = in-cons h
@@ -71,16 +73,7 @@ module _ {A : Type 0} (key : A → List ℕ) (tells : Tells key) where
       go Ordering·eq i k = inr i
       go Ordering·gt i k = late (in-cons i) k
 
-  pub in-insert-new : (x : A) (ys : List A) → In x (insert key x ys)
-  unfolding insert
-  in-insert-new x [] = here refl
-  in-insert-new x (y ∷ ys) = go (lex (key x) (key y)) refl (in-insert-new x ys)
-    where
-      go : (o : Ordering) → lex (key x) (key y) ≡ o → In x (insert key x ys) → In x (place o x y ys (λ _. insert key x ys))
-      go Ordering·lt e k = here refl
-      go Ordering·eq e k = here (tells x y (lex-eq (key x) (key y) e))
-      go Ordering·gt e k = there k
-
+  -- what stood there stays,
   pub in-insert-old : (x : A) (ys : List A) {z : A} → In z ys → In z (insert key x ys)
   unfolding insert
   in-insert-old x [] h = there h
@@ -92,6 +85,18 @@ module _ {A : Type 0} (key : A → List ℕ) (tells : Tells key) where
       go Ordering·gt (inl e) k = here e
       go Ordering·gt (inr i) k = there (k i)
 
+  -- what is put in stands there, unless another with its key did,
+  pub in-insert-told : (x : A) (ys : List A) → ((y : A) → In y ys → key x ≡ key y → x ≡ y) → In x (insert key x ys)
+  unfolding insert
+  in-insert-told x [] f = here refl
+  in-insert-told x (y ∷ ys) f = go (lex (key x) (key y)) refl (in-insert-told x ys (λ z i. f z (there i)))
+    where
+      go : (o : Ordering) → lex (key x) (key y) ≡ o → In x (insert key x ys) → In x (place o x y ys (λ _. insert key x ys))
+      go Ordering·lt e k = here refl
+      go Ordering·eq e k = here (f y (here refl) (lex-eq (key x) (key y) e))
+      go Ordering·gt e k = there k
+
+  -- and the order is kept
   pub ascending-insert : (x : A) (ys : List A) → Ascending key ys → Ascending key (insert key x ys)
   unfolding insert
   ascending-insert x [] a = (λ z i. absurd (in-nil i), tt)
@@ -111,20 +116,20 @@ module _ {A : Type 0} (key : A → List ℕ) (tells : Tells key) where
       go Ordering·eq e k = a
       go Ordering·gt e k = (λ z i. later e z (in-insert→ x ys i), k)
 
-  -- what is put in stood there, and nothing changes; or the list is one longer
-  pub insert-length : (x : A) (ys : List A) → (In x ys × (insert key x ys ≡ ys)) ⊎ (length (insert key x ys) ≡ suc (length ys))
+  -- it stood there, or another with its key, and nothing changes; or the list is one longer
+  insert-once : (x : A) (ys : List A) → (insert key x ys ≡ ys) ⊎ (length (insert key x ys) ≡ suc (length ys))
   unfolding insert
-  insert-length x [] = inr refl
-  insert-length x (y ∷ ys) = go (lex (key x) (key y)) refl (insert-length x ys)
+  insert-once x [] = inr refl
+  insert-once x (y ∷ ys) = go (lex (key x) (key y)) (insert-once x ys)
     where
-      go : (o : Ordering) → lex (key x) (key y) ≡ o → (In x ys × (insert key x ys ≡ ys))
-          ⊎ (length (insert key x ys) ≡ suc (length ys)) → (In x (y ∷ ys) × (place o x y ys (λ _. insert key x ys) ≡ (y ∷ ys)))
-          ⊎ (length (place o x y ys (λ _. insert key x ys)) ≡ suc (length (y ∷ ys)))
-      go Ordering·lt e k = inr refl
-      go Ordering·eq e k = inl (here (tells x y (lex-eq (key x) (key y) e)), refl)
-      go Ordering·gt e (inl h) = inl (there (h .0), ap (λ l. y ∷ l) (h .1))
-      go Ordering·gt e (inr h) = inr (ap suc h)
+      go : (o : Ordering) → (insert key x ys ≡ ys) ⊎ (length (insert key x ys) ≡ suc (length ys))
+          → (place o x y ys (λ _. insert key x ys) ≡ (y ∷ ys)) ⊎ (length (place o x y ys (λ _. insert key x ys)) ≡ suc (length (y ∷ ys)))
+      go Ordering·lt k = inr refl
+      go Ordering·eq k = inl refl
+      go Ordering·gt (inl h) = inl (ap (λ l. y ∷ l) h)
+      go Ordering·gt (inr h) = inr (ap suc h)
 
+  -- The same of many elements.
   pub in-insert-all→ : (xs us : List A) {z : A} → In z (insert-all key xs us) → In z xs ⊎ In z us
   unfolding insert-all
   in-insert-all→ [] us h = inr h
@@ -143,13 +148,24 @@ module _ {A : Type 0} (key : A → List ℕ) (tells : Tells key) where
   in-insert-all-old [] us h = h
   in-insert-all-old (x ∷ xs) us h = in-insert-all-old xs (insert key x us) (in-insert-old x us h)
 
-  pub in-insert-all-new : (xs us : List A) {z : A} → In z xs → In z (insert-all key xs us)
-  unfolding insert insert-all
-  in-insert-all-new [] us h = absurd (in-nil h)
-  in-insert-all-new (x ∷ xs) us {z} h = go (in-cons h) (λ i. in-insert-all-new xs (insert key x us) i)
+  pub in-insert-all-told : (xs us : List A) → ((x y : A) → In x xs → In y xs ⊎ In y us → key x ≡ key y → x ≡ y) → {z : A} → In z xs
+      → In z (insert-all key xs us)
+  unfolding insert-all
+  in-insert-all-told [] us f h = absurd (in-nil h)
+  in-insert-all-told (x ∷ xs) us f {z} h = go (in-cons h) (λ i. in-insert-all-told xs (insert key x us) (λ a b i j. f a b (there i) (with j)) i)
     where
+      step : {b : A} → (b ≡ x) ⊎ In b us → In b (x ∷ xs) ⊎ In b us
+      step (inl e) = inl (here e)
+      step (inr j) = inr j
+
+      with : {b : A} → In b xs ⊎ In b (insert key x us) → In b (x ∷ xs) ⊎ In b us
+      with (inl j) = inl (there j)
+      with (inr j) = step (in-insert→ x us j)
+
       go : (z ≡ x) ⊎ In z xs → (In z xs → In z (insert-all key xs (insert key x us))) → In z (insert-all key xs (insert key x us))
-      go (inl e) k = in-insert-all-old xs (insert key x us) (subst (λ w. In w (insert key x us)) (sym e) (in-insert-new x us))
+      go (inl e) k =
+          in-insert-all-old xs (insert key x us)
+          (subst (λ w. In w (insert key x us)) (sym e) (in-insert-told x us (λ y i. f x y (here refl) (inr i))))
       go (inr i) k = k i
 
   pub ascending-insert-all : (xs us : List A) → Ascending key us → Ascending key (insert-all key xs us)
@@ -160,13 +176,46 @@ module _ {A : Type 0} (key : A → List ℕ) (tells : Tells key) where
   pub insert-all-grows : (xs us : List A) → length us ≤ length (insert-all key xs us)
   unfolding insert-all
   insert-all-grows [] us = omega arith
-  insert-all-grows (x ∷ xs) us = go (insert-length x us) (insert-all-grows xs (insert key x us))
+  insert-all-grows (x ∷ xs) us = go (insert-once x us) (insert-all-grows xs (insert key x us))
     where
-      go : (In x us × (insert key x us ≡ us)) ⊎ (length (insert key x us) ≡ suc (length us))
+      go : (insert key x us ≡ us) ⊎ (length (insert key x us) ≡ suc (length us))
           → length (insert key x us) ≤ length (insert-all key xs (insert key x us))
           → length us ≤ length (insert-all key xs (insert key x us))
-      go (inl h) k = omega (arith, ap length (h .1))
+      go (inl h) k = omega (arith, ap length h)
       go (inr h) k = omega arith
+
+  -- a list that has not grown is the same
+  pub insert-all-same : (xs us : List A) → length (insert-all key xs us) ≡ length us → insert-all key xs us ≡ us
+  unfolding insert-all
+  insert-all-same [] us e = refl
+  insert-all-same (x ∷ xs) us e = go (insert-once x us) (insert-all-same xs (insert key x us))
+    where
+      go : (insert key x us ≡ us) ⊎ (length (insert key x us) ≡ suc (length us))
+          → (length (insert-all key xs (insert key x us)) ≡ length (insert key x us)
+          → insert-all key xs (insert key x us) ≡ insert key x us)
+          → insert-all key xs (insert key x us) ≡ us
+      go (inl h) k = k (e ∙ ap length (sym h)) ∙ h
+      go (inr h) k = absurd (omega (arith, insert-all-grows xs (insert key x us)))
+
+-- by a key that tells elements apart
+module _ {A : Type 0} (key : A → List ℕ) (tells : Tells key) where
+  -- what is put in stood there, and nothing changes; or the list is one longer
+  pub insert-length : (x : A) (ys : List A) → (In x ys × (insert key x ys ≡ ys)) ⊎ (length (insert key x ys) ≡ suc (length ys))
+  unfolding insert
+  insert-length x [] = inr refl
+  insert-length x (y ∷ ys) = go (lex (key x) (key y)) refl (insert-length x ys)
+    where
+      go : (o : Ordering) → lex (key x) (key y) ≡ o → (In x ys × (insert key x ys ≡ ys))
+          ⊎ (length (insert key x ys) ≡ suc (length ys)) → (In x (y ∷ ys) × (place o x y ys (λ _. insert key x ys) ≡ (y ∷ ys)))
+          ⊎ (length (place o x y ys (λ _. insert key x ys)) ≡ suc (length (y ∷ ys)))
+      go Ordering·lt e k = inr refl
+      go Ordering·eq e k = inl (here (tells x y (lex-eq (key x) (key y) e)), refl)
+      go Ordering·gt e (inl h) = inl (there (h .0), ap (λ l. y ∷ l) (h .1))
+      go Ordering·gt e (inr h) = inr (ap suc h)
+
+  -- what is put in stands there
+  pub in-insert-all-new : (xs us : List A) {z : A} → In z xs → In z (insert-all key xs us)
+  in-insert-all-new xs us h = in-insert-all-told key xs us (λ x y i j e. tells x y e) h
 
   -- where the list has not grown, all that was put in stood there
   pub no-growth : (xs us : List A) → length (insert-all key xs us) ≡ length us → (z : A) → In z xs → In z us
@@ -179,7 +228,7 @@ module _ {A : Type 0} (key : A → List ℕ) (tells : Tells key) where
           → In w (insert key x us)) → In z us
       go (inl i) (inl f) k = subst (λ w. In w us) (sym f) (i .0)
       go (inl i) (inr j) k = subst (In z) (i .1) (k (e ∙ ap length (sym (i .1))) z j)
-      go (inr i) j k = absurd (omega (arith, insert-all-grows xs (insert key x us)))
+      go (inr i) j k = absurd (omega (arith, insert-all-grows key xs (insert key x us)))
 
 -- distinct elements, none of them there: each makes the list longer
 module _ {A : Type 0} (key : A → List ℕ) (tells : Tells key) where
@@ -188,7 +237,7 @@ module _ {A : Type 0} (key : A → List ℕ) (tells : Tells key) where
   unfolding insert-all
   insert-distinct [] us n f = omega arith
   insert-distinct (x ∷ xs) us n f =
-      go (insert-length key tells x us) (insert-distinct xs (insert key x us) (n .1) (λ y i j. apart y i (in-insert→ key tells x us j)))
+      go (insert-length key tells x us) (insert-distinct xs (insert key x us) (n .1) (λ y i j. apart y i (in-insert→ key x us j)))
     where
       apart : (y : A) → In y xs → (y ≡ x) ⊎ In y us → ⊥
       apart y i (inl e) = n .0 (subst (λ w. In w xs) e i)
@@ -267,8 +316,8 @@ distinct-length {A} key tells xs ys d b f =
     omega (
       arith,
       insert-distinct key tells xs [] d (λ x i j. in-nil j),
-      sub-length key (insert-all key xs []) ys (ascending-insert-all key tells xs [] tt) b
-          (λ z i. there-too z (in-insert-all→ key tells xs [] i)),
+      sub-length key (insert-all key xs []) ys (ascending-insert-all key xs [] tt) b
+          (λ z i. there-too z (in-insert-all→ key xs [] i)),
     )
   where
     there-too : (z : A) → In z xs ⊎ In z [] → In z ys

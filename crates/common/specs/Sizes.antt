@@ -6,7 +6,7 @@ abbrev pub load-width : ℕ
 load-width = 3
 
 abbrev pub store-width : ℕ
-store-width = 3
+store-width = 5
 
 abbrev pub finding-width : ℕ
 finding-width = 5

@@ -15,6 +15,15 @@ pub record Triple : Type 0 where
 abbrev pub triple : ℕ → ℕ → ℕ → Triple
 triple x y z = record { s = x; p = y; o = z }
 
+-- a row of a store: a triple, the pass in which it came in, and the rule that brought it in. REFERENCE 1.3 and 6.5
+pub record Row : Type 0 where
+  pub it : Triple
+  pub pass : ℕ
+  pub rule : ℕ
+
+abbrev pub row : Triple → ℕ → ℕ → Row
+row t n k = record { it = t; pass = n; rule = k }
+
 -- a finding: the check's number, then the four numbers of REFERENCE 7.1
 pub record Finding : Type 0 where
   pub check : ℕ
@@ -62,6 +71,10 @@ lex (x ∷ xs) (y ∷ ys) = then (compare x y) λ _. lex xs ys
 abbrev pub key-triple : Triple → List ℕ
 key-triple t = t .s ∷ t .p ∷ t .o ∷ []
 
+-- rows are ordered by their triples alone
+abbrev pub key-row : Row → List ℕ
+key-row r = key-triple (r .it)
+
 abbrev pub key-finding : Finding → List ℕ
 key-finding x = x .check ∷ x .a ∷ x .b ∷ x .c ∷ x .d ∷ []
 
@@ -98,3 +111,12 @@ no-zero t = not (eqb (t .s) 0) && not (eqb (t .p) 0) && not (eqb (t .o) 0)
 
 unfoldable pub without-zero : List Triple → List Triple
 without-zero ts = concat-map ts (λ t. if (no-zero t) (λ _. t ∷ []) (λ _. []))
+
+-- the same for rows
+unfoldable pub without-zero-rows : List Row → List Row
+without-zero-rows rs = concat-map rs (λ r. if (no-zero (r .it)) (λ _. r ∷ []) (λ _. []))
+
+-- the triples of rows
+abbrev pub erase : List Row → List Triple
+erase [] = []
+erase (r ∷ rs) = r .it ∷ erase rs

@@ -7,7 +7,7 @@ ghost use Rattle.common.specs.Rows.{cleared};
 // How many numbers a triple of a load has, a row of a store, a finding.
 pub const LOAD_WIDTH: usize = 3;
 
-pub const STORE_WIDTH: usize = 3;
+pub const STORE_WIDTH: usize = 5;
 
 pub const FINDING_WIDTH: usize = 5;
 
@@ -44,6 +44,13 @@ pub struct Triple {
     pub s: Id,
     pub p: Id,
     pub o: Id,
+}
+
+// A row of a store: a triple, the pass in which it came in, and the rule that brought it in; both 0 for a starting triple.
+pub struct Row {
+    pub it: Triple,
+    pub pass: u32,
+    pub rule: u32,
 }
 
 // The ids of the thirty terms that a start puts.

@@ -3,21 +3,24 @@ use mathlib.Core.Path.{_≡_, sym, _∙_, ap, subst}
 use mathlib.Core.List.{List, _++_}
 use Prim.Native.Nat.{ℕ, suc, _*_}
 use lib.ListN.{length, take}
-use Rattle.common.specs.Triples.{Triple, triple, Finding, finding, In, key-triple, key-finding, Ascending}
+use Rattle.common.specs.Triples.{Triple, triple, Row, Finding, finding, In, key-triple, key-finding, Ascending, erase}
 use Rattle.meaning.specs.Rules.{Graph}
 use Rattle.meaning.specs.Containers.{Containers}
 use Rattle.meaning.specs.Table.{graph-of}
 use Rattle.meaning.specs.Closure.{Sub, IsClosure, closure, five-counts, total}
 use Rattle.meaning.specs.Run.{accepted, run}
+use Rattle.meaning.specs.RowsRun.{run-rows, erase-outcome}
 use Rattle.common.specs.Sizes.{store-width, finding-width}
-use Rattle.common.specs.Rows.{flat, flat-findings, triples, findings-of, filled}
+use Rattle.common.specs.Rows.{flat-rows, flat-findings, triples, rows-of, findings-of, filled}
 use Rattle.meaning.specs.Batch.{Same, Conditions}
 use Rattle.meaning.proofs.Checks.{findings-ascending, findings→, findings←, found-up}
 use Rattle.meaning.proofs.LoadClosure.{closure-ascending}
 use Rattle.meaning.proofs.Batch.{in-without-zero→, in-without-zero←, without-zero-ascending}
 use Rattle.meaning.proofs.Run.{accepted→, batch-law}
+use Rattle.meaning.proofs.RowsRun.{erase-run, accepted-lie}
 use Rattle.meaning.proofs.Refusals.{computed-in, in-computed}
-use Rattle.common.proofs.Rows.{triples-filled, findings-filled}
+use Rattle.common.proofs.Rows.{rows-filled, findings-filled}
+use Rattle.common.proofs.RowLists.{length-erase}
 use Rattle.meaning.proofs.Counts.{total-findings}
 use Rattle.dictionary_layout.specs.Terms.{Term, start-terms}
 use Rattle.dictionary_layout.specs.Layout.{decode}
@@ -25,30 +28,41 @@ use Rattle.dictionary_layout.specs.Calls.{start-gives}
 use Rattle.dictionary_layout.proofs.Decoding.{decode-layout}
 use Rattle.driver_refusals.specs.Lent.{Lent}
 use Rattle.driver_load.specs.Closed.{Run-answer, store-room, findings-room, outcome-answer, containers}
+use Rattle.driver_run.proofs.Accepting.{runs-triples}
 use Rattle.driver_calls.specs.Calls.{Call, ran, List-left, events-of, terms-after}
-use Rattle.driver_calls.specs.Demand3.{answer, found, Agree, Exact, list-gives, Demand-3}
+use Rattle.driver_calls.specs.Demand3.{stored, answer, found, Agree, Exact, list-gives, Demand-3}
 use Rattle.driver_calls.proofs.Abstraction.{start-abstract}
 use Rattle.driver_calls.proofs.Growth.{Reading, reading}
 use Rattle.driver_calls.proofs.Unbroken.{events-unbroken}
 
 -- what an accepted run's store and findings hold
-module _ (c : Containers) (b : Lent) (cap fcap : ℕ) (X N : List Triple) (F : List Finding) (n : ℕ) (k : List ℕ)
-    (r : run c cap fcap X ≡ accepted N F n k) where
-  pub answer-of-accepted : answer (outcome-answer b (accepted N F n k)) ≡ N
-  answer-of-accepted =
-      ap (λ m. triples (take (store-width * m) (filled (b .store) (flat N)))) (accepted→ c cap fcap X N F n k r .count)
-      ∙ triples-filled (b .store) N
+module _ (c : Containers) (b : Lent) (cap fcap : ℕ) (X : List Triple) (R : List Row) (F : List Finding) (n : ℕ) (k : List ℕ)
+    (q : run-rows c cap fcap X ≡ accepted R F n k) where
+  -- without pass and rule it is the run of triples
+  abbrev N : List Triple
+  N = erase R
+
+  r : run c cap fcap X ≡ accepted N F n k
+  r = sym (erase-run c cap fcap X) ∙ ap erase-outcome q
+
+  pub stored-of-accepted : stored (outcome-answer b (accepted R F n k)) ≡ R
+  stored-of-accepted =
+      ap (λ m. rows-of (take (store-width * m) (filled (b .store) (flat-rows R)))) (accepted→ c cap fcap X N F n k r .count ∙ length-erase R)
+      ∙ rows-filled (b .store) R
+
+  pub answer-of-accepted : answer (outcome-answer b (accepted R F n k)) ≡ N
+  answer-of-accepted = ap erase stored-of-accepted
 
   counted : total k ≡ length F
   counted =
       let a = accepted→ c cap fcap X N F n k r in
       ap total (a .counts) ∙ subst (λ G. total (five-counts G) ≡ length G) (sym (a .found)) (total-findings (closure c (suc cap) X))
 
-  pub findings-of-accepted : found (outcome-answer b (accepted N F n k)) ≡ F
+  pub findings-of-accepted : found (outcome-answer b (accepted R F n k)) ≡ F
   findings-of-accepted =
       ap (λ m. findings-of (take (finding-width * m) (filled (b .findings) (flat-findings F)))) counted ∙ findings-filled (b .findings) F
 
-  pub exact : (Y : List Triple) → Same X Y → Exact c Y (outcome-answer b (accepted N F n k))
+  pub exact : (Y : List Triple) → Same X Y → Exact c Y (outcome-answer b (accepted R F n k))
   exact Y s =
       let a = accepted→ c cap fcap X N F n k r in
       let e = answer-of-accepted ∙ a .answer in
@@ -63,6 +77,7 @@ module _ (c : Containers) (b : Lent) (cap fcap : ℕ) (X N : List Triple) (F : L
             (into C h x y z j, g);
         complete = λ C h x y z i g. subst (In (triple x y z)) (sym e)
             (in-without-zero← (closure c (suc cap) X) (triple x y z) (back C h x y z i) g);
+        passes = λ x i. accepted-lie c cap fcap X Y s q x (subst (In x) stored-of-accepted i);
         findings-ascending = subst (Ascending key-finding) (sym f) (findings-ascending (closure c (suc cap) X));
         findings-sound = λ C h m x y z w i. found-up (into C h) (findings→ (closure c (suc cap) X) (subst (In (finding m x y z w)) f i));
         findings-complete =
@@ -73,20 +88,20 @@ module _ (c : Containers) (b : Lent) (cap fcap : ℕ) (X N : List Triple) (F : L
 
 -- the same of a run that was read with the terms of its list's end
 module _ {ws : List Term} {b : Lent} {o : Run-answer} (r : Reading ws b o) where
-  read-answer : answer o ≡ r .answer
+  read-answer : answer o ≡ erase (r .rows)
   read-answer =
-      ap answer (r .gives) ∙ answer-of-accepted (containers ws) b (store-room b) (findings-room b) (triples (b .load)) (r .answer)
+      ap answer (r .gives) ∙ answer-of-accepted (containers ws) b (store-room b) (findings-room b) (triples (b .load)) (r .rows)
       (r .row) (r .n) (r .k) (r .runs)
 
   read-found : found o ≡ r .row
   read-found =
-      ap found (r .gives) ∙ findings-of-accepted (containers ws) b (store-room b) (findings-room b) (triples (b .load)) (r .answer)
+      ap found (r .gives) ∙ findings-of-accepted (containers ws) b (store-room b) (findings-room b) (triples (b .load)) (r .rows)
       (r .row) (r .n) (r .k) (r .runs)
 
   read-exact : (Y : List Triple) → Same (triples (b .load)) Y → Exact (containers ws) Y o
   read-exact Y s =
       subst (Exact (containers ws) Y) (sym (r .gives)) (exact (containers ws) b (store-room b) (findings-room b) (triples (b .load))
-      (r .answer) (r .row) (r .n) (r .k) (r .runs) Y s)
+      (r .rows) (r .row) (r .n) (r .k) (r .runs) Y s)
 
 -- three accepted runs of a list, read with the terms of its end
 batches : (tl al : ℕ) (ts : List Term) (cs : List Call) (b₁ b₂ b₃ : Lent) (o₁ o₂ o₃ : Run-answer)
@@ -100,11 +115,12 @@ batches tl al ts cs b₁ b₂ b₃ o₁ o₂ o₃ i₁ i₂ i₃ n₁ n₂ n₃ 
     let r₁ = reading tl al ts cs b₁ o₁ i₁ n₁ in
     let r₂ = reading tl al ts cs b₂ o₂ i₂ n₂ in
     let r₃ = reading tl al ts cs b₃ o₃ i₃ n₃ in
-    let c = containers (terms-after tl al ts cs) in
+    let ws = terms-after tl al ts cs in
+    let c = containers ws in
     let (e, f, g, k) = batch-law c A B (triples (b₁ .load)) (triples (b₂ .load)) (triples (b₃ .load))
     (store-room b₁) (findings-room b₁) (store-room b₂) (findings-room b₂) (store-room b₃) (findings-room b₃)
-    (r₁ .answer) (r₂ .answer) (r₃ .answer) (r₁ .row) (r₂ .row) (r₃ .row) (r₁ .n) (r₂ .n) (r₃ .n) (r₁ .k) (r₂ .k) (r₃ .k)
-    (r₁ .runs) (r₂ .runs) (r₃ .runs)
+    (erase (r₁ .rows)) (erase (r₂ .rows)) (erase (r₃ .rows)) (r₁ .row) (r₂ .row) (r₃ .row) (r₁ .n) (r₂ .n) (r₃ .n) (r₁ .k) (r₂ .k) (r₃ .k)
+    (runs-triples b₁ ws (r₁ .runs)) (runs-triples b₂ ws (r₂ .runs)) (runs-triples b₃ ws (r₃ .runs))
     s₁ (subst (λ N. Same (triples (b₂ .load)) (N ++ B)) (read-answer r₁) s₂) s₃ (r₁ .clean)
     (subst (Conditions (c .is) A B) (read-answer r₁) h) in (
       record {

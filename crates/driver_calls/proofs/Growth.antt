@@ -13,12 +13,13 @@ use Rattle.driver_run.specs.Run.{Abstract-run-result, run-all-put, run-passed, 
 use Rattle.driver_refusals.specs.RunRefusals.{first-refusal, run-refusals}
 use Rattle.dictionary_layout.specs.Terms.{Term, no-term, property-term, membership-term, member-term, run-terms}
 use Rattle.dictionary_layout.specs.Dictionary.{place-from, id-of, All-put, full, all-put, put-all}
-use Rattle.common.specs.Triples.{Triple, Finding, In, here, there, all, no-zero}
+use Rattle.common.specs.Triples.{Triple, Row, Finding, In, here, there, all, no-zero}
 use Rattle.dictionary_containers.specs.Containers.{is-container-term}
-use Rattle.meaning.specs.Run.{accepted, run}
+use Rattle.meaning.specs.Run.{accepted}
+use Rattle.meaning.specs.RowsRun.{run-rows}
 use Rattle.common.specs.Rows.{triples}
 use Rattle.common.proofs.Lists.{in-nil, in-cons, and←}
-use Rattle.meaning.proofs.Run.{same-dictionary}
+use Rattle.meaning.proofs.RowsRun.{same-dictionary}
 use Rattle.driver_run.proofs.PuttingAll.{Grown, grown-none, grown-trans, grown-length, put-grows, put-all-grows, Has, put-all-has}
 use Rattle.dictionary_run_terms.proofs.Places.{place-stays}
 use Rattle.driver_refusals.proofs.Refusing.{all-in}
@@ -62,7 +63,7 @@ load-clean l h t i =
 -- the terms of a later moment say the same of a load whose ids are known
 pub later : (us ws : List Term) → Grown us ws → ((t : Term) → In t run-terms → Has us t) → (load : List Triple)
     → ((t : Triple) → In t load → t .p < length us) → (cap fcap : ℕ)
-    → run (containers us) cap fcap load ≡ run (containers ws) cap fcap load
+    → run-rows (containers us) cap fcap load ≡ run-rows (containers ws) cap fcap load
 unfolding containers run-terms
 later us ws g h load k cap fcap =
     same-dictionary (containers us) (containers ws) load
@@ -78,12 +79,12 @@ later us ws g h load k cap fcap =
 
 -- EVERY ACCEPTED RUN OF A LIST, read with the terms of the list's end
 pub record Reading (ws : List Term) (b : Lent) (o : Run-answer) : Type 0 where
-  pub answer : List Triple
+  pub rows : List Row
   pub row : List Finding
   pub n : ℕ
   pub k : List ℕ
-  pub runs : closed b ws ≡ accepted answer row n k
-  pub gives : o ≡ outcome-answer b (accepted answer row n k)
+  pub runs : closed b ws ≡ accepted rows row n k
+  pub gives : o ≡ outcome-answer b (accepted rows row n k)
   pub clean : (t : Triple) → In t (triples (b .load)) → T (no-zero t)
 
 accepted-reading : (tl al : ℕ) (ts ws : List Term) (b : Lent) (l : Abstract-run-result) → AcceptedRun tl al ts b l → Grown (l .held) ws
@@ -92,7 +93,7 @@ accepted-reading tl al ts ws b l a g =
     let us = a .terms in
     let n = grown-length ts us (put-all-grows tl al ts run-terms us (a .puts-all)) in
     record {
-      answer = a .answer;
+      rows = a .rows;
       row = a .row;
       n = a .n;
       k = a .k;

@@ -15,7 +15,7 @@ use Rattle.driver_refusals.specs.RunRefusals.{Refusal, first-refusal, run-refus
 use Rattle.dictionary_layout.specs.Terms.{Term, run-terms}
 use Rattle.dictionary_layout.specs.Dictionary.{place-from, kind-known, short, roomy, put-answer, put-at, abstract-put, All-put, full}
 use Rattle.dictionary_layout.specs.Dictionary.{all-put, put-all, Lookup-answer, lookup-answer, term-of, abstract-lookup}
-use Rattle.common.specs.Triples.{In, if}
+use Rattle.common.specs.Triples.{Row, In, if}
 use Rattle.meaning.specs.Run.{Outcome, store-full, findings-full, accepted}
 use Rattle.common.proofs.Lists.{in-nil, in-cons, and→}
 use Rattle.ntriples.proofs.Growing.{read-not-1}
@@ -67,7 +67,7 @@ run-not-1 : (tl al : ℕ) (ts : List Term) (b : Lent) → abstract-run tl al ts 
 unfolding abstract-run
 run-not-1 tl al ts b = passed (first-refusal (run-refusals (length ts) b)) (first-refusal-not-1 (run-refusals (length ts) b) tt)
   where
-    judge : (o : Outcome) → outcome-answer b o .number ≢ 1
+    judge : (o : Outcome Row) → outcome-answer b o .number ≢ 1
     judge store-full = omega arith
     judge findings-full = omega arith
     judge (accepted N F n k) = omega arith

@@ -6,12 +6,13 @@ use mathlib.Core.List.{List, _++_}
 use Prim.Native.Nat.{ℕ, _*_}
 use lib.Dec.{T}
 use lib.ListN.{length, take}
-use Rattle.common.specs.Triples.{Triple, triple, Finding, finding, In, key-triple, key-finding, Ascending, no-zero}
+use Rattle.common.specs.Triples.{Triple, triple, Row, Finding, finding, In, key-triple, key-finding, Ascending, no-zero, erase}
 use Rattle.meaning.specs.Rules.{Graph, Found}
 use Rattle.meaning.specs.Containers.{Containers}
 use Rattle.meaning.specs.Closure.{IsClosure, five-counts, total}
+use Rattle.meaning.specs.Passes.{Lies}
 use Rattle.common.specs.Sizes.{store-width, finding-width}
-use Rattle.common.specs.Rows.{triples, findings-of}
+use Rattle.common.specs.Rows.{triples, rows-of, findings-of}
 use Rattle.meaning.specs.Batch.{Same, Conditions}
 use Rattle.dictionary_layout.specs.Terms.{start-terms}
 use Rattle.dictionary_layout.specs.Layout.{layout, decode}
@@ -20,9 +21,13 @@ use Rattle.driver_refusals.specs.Lent.{Lent}
 use Rattle.driver_load.specs.Closed.{Run-answer, containers}
 use Rattle.driver_calls.specs.Calls.{Call, Event, ran, List-left, calls-give, events-of, terms-after, number-of}
 
--- the triples that a run's store holds, by its triple count, and the records of its findings, by its five counts
+-- the rows that a run's store holds, by its triple count, and the records of its findings, by its five counts
+abbrev pub stored : Run-answer → List Row
+stored o = rows-of (take (store-width * o .count) (o .store))
+
+-- the answer: the triples of the rows, without pass and rule. Answers are compared, and loaded again, by this. REFERENCE 6.4
 abbrev pub answer : Run-answer → List Triple
-answer o = triples (take (store-width * o .count) (o .store))
+answer o = erase (stored o)
 
 abbrev pub found : Run-answer → List Finding
 found o = findings-of (take (finding-width * total (o .counts)) (o .findings))
@@ -35,11 +40,13 @@ pub record Agree (o o′ : Run-answer) : Type 0 where
   pub same-counts : o .counts ≡ o′ .counts
 
 -- The triples are exactly those of the load's closure without a zero id, ascending; the findings exactly the records whose check holds
--- in that closure, zero ids included, ascending; and the six counts are those of the rows written.
+-- in that closure, zero ids included, ascending; each row has the pass and the rule that REFERENCE 6.5 says; and the six counts are those
+-- of the rows written.
 pub record Exact (c : Containers) (load : List Triple) (o : Run-answer) : Type 1 where
   pub ascending : Ascending key-triple (answer o)
   pub sound : (C : Graph) → IsClosure c load C → (x y z : ℕ) → In (triple x y z) (answer o) → C x y z × T (no-zero (triple x y z))
   pub complete : (C : Graph) → IsClosure c load C → (x y z : ℕ) → C x y z → T (no-zero (triple x y z)) → In (triple x y z) (answer o)
+  pub passes : (r : Row) → In r (stored o) → Lies c load r
   pub findings-ascending : Ascending key-finding (found o)
   pub findings-sound : (C : Graph) → IsClosure c load C → (n x y z w : ℕ) → In (finding n x y z w) (found o) → Found C n x y z w
   pub findings-complete : (C : Graph) → IsClosure c load C → (n x y z w : ℕ) → Found C n x y z w → In (finding n x y z w) (found o)

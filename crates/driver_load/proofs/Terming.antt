@@ -14,15 +14,14 @@ use Rattle.meaning.specs.Start.{Start}
 use Rattle.meaning.specs.Closure.{Sub}
 use Rattle.meaning.proofs.LoadClosure.{closure-is}
 use Rattle.meaning.proofs.Ids.{Each, closure-below}
-use Rattle.store_rows.specs.Rows.{rowAt, rows}
+use Rattle.store_rows.specs.Rows.{rowAt, loadAt, load-rows}
 use Rattle.store_rows.specs.Layout.{members-at, rests-at, roles-length}
-use Rattle.store_rows.specs.Store.{Extended}
-use Rattle.store_rows.proofs.Rows.{in-rows←}
+use Rattle.store_rows.proofs.Listed.{in-listed←}
 use Rattle.dictionary_layout.specs.Layout.{Dict, decode}
 use Rattle.dictionary_layout.specs.Values.{contents}
 use Rattle.dictionary_run_terms.specs.declared.values.RunTerms.{RunTerms}
 use Rattle.dictionary_entries.proofs.Reading.{Lengths, lengths}
-use Rattle.engine_start.specs.Starting.{containers-by, Loadable, StartOf}
+use Rattle.engine_start.specs.Starting.{StartAdded, containers-by, Loadable, StartOf}
 use Rattle.engine_start.proofs.Starting.{rows-triples}
 use Rattle.engine_table.specs.Clauses.{Clause, TableOfRules}
 use Rattle.engine_lists.specs.Lists.{Ready, Made}
@@ -54,14 +53,13 @@ module _ {table arena load store work : List ℕ} {r : RunTerms} (A : Termed tab
   abbrev count : ℕ
   count = length load / load-width
 
-  load-rows : rows count load ≡ triples load
-  load-rows = rows-triples count load (omega (arith, L .whole))
+  load-triples : load-rows count load ≡ triples load
+  load-triples = rows-triples count load (omega (arith, L .whole))
 
   -- the ids of the load are terms
-  load-known : (j : ℕ) → j < count → Each (λ i. i < terms) (rowAt load j .s) (rowAt load j .p) (rowAt load j .o)
+  load-known : (j : ℕ) → j < count → Each (λ i. i < terms) (loadAt load j .s) (loadAt load j .p) (loadAt load j .o)
   load-known j p =
-      L .known (rowAt load j) (subst (In (rowAt load j)) load-rows
-      (in-rows← {l = load} {n = count} {t = rowAt load j} (record { at = j; below = p; is = refl })))
+      L .known (loadAt load j) (subst (In (loadAt load j)) load-triples (in-listed← count (loadAt load) j p))
 
   pub loadable : Loadable load count (r .ids)
   loadable = record {
@@ -91,7 +89,7 @@ module _ {table arena load store work : List ℕ} {r : RunTerms} (A : Termed tab
 
   -- they are those that the load's triples say
   pub load-lists : {k : ℕ} {work' ix ix' : List ℕ} → Made k load count work' ix ix' → LoadLists (triples load) work'
-  load-lists m = record { same = λ x. m .lists x ∙ ap (λ (ts : List Triple). members ts x) load-rows }
+  load-lists m = record { same = λ x. m .lists x ∙ ap (λ (ts : List Triple). members ts x) load-triples }
 
   -- every id of the start is a term's
   start-known : Sub (Start c (triples load)) (Each (λ i. i < terms))
@@ -101,9 +99,9 @@ module _ {table arena load store work : List ℕ} {r : RunTerms} (A : Termed tab
       (subst (λ (k : Containers). k .member < terms) same-containers (A .below .member))
       x y z (closure-is c (triples load) .holds x y z i)
 
-  module _ {l₀ l h : List ℕ} {n : ℕ} {f : Bool} (a : Extended (StartOf (containers-by (decode d) (r .ids)) load) l₀ 0 l h n f) where
-    pub started : Extended (StartOf c load) l₀ 0 l h n f
-    started = subst (λ (k : Containers). Extended (StartOf k load) l₀ 0 l h n f) same-containers a
+  module _ {l₀ l h : List ℕ} {n : ℕ} {f : Bool} (a : StartAdded (StartOf (containers-by (decode d) (r .ids)) load) l₀ 0 l h n f) where
+    pub started : StartAdded (StartOf c load) l₀ 0 l h n f
+    started = subst (λ (k : Containers). StartAdded (StartOf k load) l₀ 0 l h n f) same-containers a
 
     row-known : (j : ℕ) → j < n → Each (λ i. i < terms) (rowAt l j .s) (rowAt l j .p) (rowAt l j .o)
     row-known j p = start-known _ _ _ (rows-start c (triples load) started _ _ _ (record { at = j; below = p; is = refl }))

@@ -32,7 +32,8 @@ use Rattle.driver_load.specs.Loads.{Below, Termed, Loaded}
 use Rattle.driver_refusals.proofs.Refusing.{Unmet, unmet-all, not-not, all-in}
 use Rattle.driver_run.proofs.PuttingAll.{grown-length, put-all-grows, put-all-few, put-all-below}
 
-not-above : (a b : ℕ) → T (not (ltb a b)) → b ≤ a
+-- a number that is not above another
+pub not-above : (a b : ℕ) → T (not (ltb a b)) → b ≤ a
 not-above a b h = ⊎-elim (λ p. p) (λ p. absurd (go (ltb a b) (lt→ltb a b p) h)) (le-or b a)
   where
     go : (c : Bool) → T c → T (not c) → ⊥

@@ -9,7 +9,7 @@ use lib.Dec.{T, ltb, eqb, ltb→lt}
 use lib.ListN.{length, take}
 use borrow.Author.Tests.{eqb-true, eqb-false}
 use Rattle.common.specs.Sizes.{load-width}
-use Rattle.common.specs.Triples.{if}
+use Rattle.common.specs.Triples.{Row, if}
 use Rattle.meaning.specs.Run.{Outcome, store-full, findings-full, accepted}
 use Rattle.dictionary_layout.specs.Terms.{Term, start-terms, run-terms}
 use Rattle.dictionary_layout.specs.Layout.{Dict, dict, chain, size, layout}
@@ -61,7 +61,7 @@ run-kept tl al ts b = go (first-refusal (run-refusals (length ts) b))
     kept : Abstract-run-result → Type 0
     kept r = Kept ts (r .answer .number) (r .held)
 
-    judged : (o : Outcome) → true ≡ changes (outcome-answer b o .number)
+    judged : (o : Outcome Row) → true ≡ changes (outcome-answer b o .number)
     judged store-full = refl
     judged findings-full = refl
     judged (accepted N F n k) = refl

@@ -3,10 +3,10 @@
 -- Assumes nothing.
 use mathlib.Core.Path.{_≡_}
 use mathlib.Core.Logic.{_≢_}
-use mathlib.Core.List.{List, _++_}
-use Prim.Native.Nat.{ℕ, _*_}
+use mathlib.Core.List.{List, [], _++_}
+use Prim.Native.Nat.{ℕ, zero, suc, _*_}
 use lib.ListN.{length, take, drop}
-use Rattle.common.specs.Sizes.{store-width}
+use Rattle.common.specs.Sizes.{load-width, store-width}
 use Rattle.common.specs.Triples.{Triple, In}
 use Rattle.common.specs.Rows.{flat, triples}
 use Rattle.meaning.specs.Batch.{Same, Conditions}
@@ -37,15 +37,23 @@ read-answer o = record {
 abbrev pub loaded : Lent → List Triple
 loaded b = triples (read-buffer (b .load))
 
--- the bytes of a triple
+-- the bytes of a triple of a load, and of a row of a store
 abbrev pub triple-bytes : ℕ
-triple-bytes = 4 * store-width
+triple-bytes = 4 * load-width
 
--- the bytes of the triples that a run left, and then those of any B are a load of the run's answer with B
+abbrev pub row-bytes : ℕ
+row-bytes = 4 * store-width
+
+-- the bytes of the triples of the first n rows: of each row its first three numbers
+abbrev pub copied : ℕ → List ℕ → List ℕ
+copied zero store = []
+copied (suc n) store = take triple-bytes store ++ copied n (drop row-bytes store)
+
+-- the bytes of the triples that a run left, copied so, and then those of any B are a load of the run's answer with B
 abbrev pub Next-load : Run-answer → Type 0
 Next-load o =
     (B : List Triple) → Fit-bytes (flat B)
-    → triples (read-buffer (take (triple-bytes * o .count) (o .store) ++ bytes-of (flat B))) ≡ answer (read-answer o) ++ B
+    → triples (read-buffer (copied (o .count) (o .store) ++ bytes-of (flat B))) ≡ answer (read-answer o) ++ B
 
 -- what the list of calls gives from what the start leaves, and the terms that the contents name then
 abbrev pub list-gives : List ℕ → List ℕ → List Call → Byte-list-left

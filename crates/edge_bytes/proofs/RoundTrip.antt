@@ -1,10 +1,9 @@
 -- What is written as bytes is read back: numbers below 2 ^ 32. Assumes nothing.
 use Prim.Native.Nat.{ℕ, zero, suc, _+_, _*_, _/_, _%_, _<_}
-use mathlib.Core.Path.{_≡_, refl, _∙_, ap, ap₂}
+use mathlib.Core.Path.{_≡_, refl, ap, ap₂}
 use mathlib.Core.List.{List, [], _∷_, _++_}
 use native.Mathlib.Omega.{arith}
-use lib.ListN.{length, take, replicate}
-use lib.Seq.{take-nil}
+use lib.ListN.{length, replicate}
 use borrow.Author.Tests.{eq-eqb}
 use Rattle.edge_bytes.specs.Bytes.{from-bytes, to-bytes, numbers-of, bytes-of, Fit-bytes, read-buffer}
 
@@ -36,16 +35,6 @@ unfolding read-buffer
 read-bytes l f =
     let h : length (bytes-of l) % 4 ≡ 0 = omega (arith, length-bytes l) in
     simp (eq-eqb (length (bytes-of l) % 4) 0 h) (numbers-bytes l f)
-
--- the bytes of a list's first numbers, and of two lists one behind the other
-pub bytes-take : (k : ℕ) (l : List ℕ) → take (4 * k) (bytes-of l) ≡ bytes-of (take k l)
-unfolding bytes-of
-bytes-take zero l = refl
-bytes-take (suc k) [] = take-nil (4 * suc k)
-bytes-take (suc k) (n ∷ l) =
-    let q : 4 * suc k ≡ suc (suc (suc (suc (4 * k)))) = omega arith in
-    ap (λ (j : ℕ). take j (bytes-of (n ∷ l))) q
-    ∙ ap (to-bytes n) (bytes-take k l)
 
 pub bytes-append : (l m : List ℕ) → bytes-of (l ++ m) ≡ bytes-of l ++ bytes-of m
 unfolding bytes-of

@@ -8,8 +8,10 @@ use native.Mathlib.Omega.{arith}
 use lib.Dec.{T}
 use lib.ListN.{length, replicate}
 use Rattle.common.specs.Sizes.{store-width, finding-width}
-use Rattle.common.specs.Rows.{flat, flat-findings, triples, zeros}
-use Rattle.meaning.specs.Run.{Outcome, store-full, findings-full, accepted, run}
+use Rattle.common.specs.Rows.{flat-rows, flat-findings, triples, zeros}
+use Rattle.common.specs.Triples.{Row}
+use Rattle.meaning.specs.Run.{Outcome, store-full, findings-full, accepted}
+use Rattle.meaning.specs.RowsRun.{run-rows}
 use Rattle.dictionary_layout.specs.Terms.{Term, run-terms}
 use Rattle.dictionary_layout.specs.Layout.{Dict, dict, layout, decode}
 use Rattle.dictionary_layout.specs.Dictionary.{All-put, full, all-put, put-all, valid}
@@ -105,28 +107,28 @@ module _ (d : Dict) {b m : Lent} {t : List ℕ} (h : Passed (d .table) b t m) wh
         ≡ left-bytes n (b .findings) (row ++ replicate (length (read-buffer (b .findings)) - length row) 0)
     findings-alike n row = ap (λ (k : ℕ). left-bytes n (b .findings) (row ++ replicate (k - length row) 0)) (v .findings-same)
 
-    outcome-alike : (o : Outcome) (x : Dict) → left (result (outcome-answer m o) x) ≡ given (result (outcome-answer (read-lent b) o) x)
+    outcome-alike : (o : Outcome Row) (x : Dict) → left (result (outcome-answer m o) x) ≡ given (result (outcome-answer (read-lent b) o) x)
     outcome-alike store-full x =
         λ i. run-result 8 0 five-zeros (left-bytes 8 (b .store) (replicate (v .store-same i) 0))
         (left-bytes 8 (b .findings) (replicate (v .findings-same i) 0)) (work-alike 8 yes-8 i) (left-dict 8 (d .table) x)
     outcome-alike findings-full x =
         λ i. run-result 9 0 five-zeros (left-bytes 9 (b .store) (replicate (v .store-same i) 0))
         (left-bytes 9 (b .findings) (replicate (v .findings-same i) 0)) (work-alike 9 yes-9 i) (left-dict 9 (d .table) x)
-    outcome-alike (accepted ts fs k ns) x =
-        let p = store-alike 0 (flat ts) in
+    outcome-alike (accepted rs fs k ns) x =
+        let p = store-alike 0 (flat-rows rs) in
         let q = findings-alike 0 (flat-findings fs) in
         λ i. run-result 0 k ns (p i) (q i) (work-alike 0 yes-0 i) (left-dict 0 (d .table) x)
 
     closed-alike : (us : List Term) → closed m us ≡ closed (read-lent b) us
     closed-alike us =
-        λ i. run (containers us) (v .store-same i / store-width) (v .findings-same i / finding-width) (triples (v .load-own i))
+        λ i. run-rows (containers us) (v .store-same i / store-width) (v .findings-same i / finding-width) (triples (v .load-own i))
 
     all-put-alike : (x : All-put) → left (laid-out own (run-all-put m (decode own) x))
         ≡ given (laid-out own (run-all-put (read-lent b) (decode own) x))
     all-put-alike full = let x = layout (length (own .table)) (length (d .arena)) (decode own) in refused-alike 7 quiet-7 x x refl
     all-put-alike (all-put us) =
         let x = layout (length (own .table)) (length (d .arena)) us in
-        ap (λ (o : Outcome). left (result (outcome-answer m o) x)) (closed-alike us) ∙ outcome-alike (closed (read-lent b) us) x
+        ap (λ (o : Outcome Row). left (result (outcome-answer m o) x)) (closed-alike us) ∙ outcome-alike (closed (read-lent b) us) x
 
   abbrev refusal : ℕ
   refusal = first-refusal (run-refusals (d .terms) m)

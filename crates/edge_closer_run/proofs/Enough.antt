@@ -8,7 +8,7 @@ use Prim.Native.Nat.{ℕ, zero, suc, _+_, _*_, _%_, _≤_, _<_}
 use native.Mathlib.Omega.{arith}
 use lib.Dec.{T, ltb, eqb, ltb→lt}
 use lib.ListN.{length, replicate}
-use Rattle.common.specs.Triples.{all}
+use Rattle.common.specs.Triples.{Row, all}
 use Rattle.meaning.specs.Run.{Outcome, store-full, findings-full, accepted}
 use Rattle.dictionary_layout.specs.Terms.{Term, start-terms, run-terms}
 use Rattle.dictionary_layout.specs.Layout.{Dict, size, layout}
@@ -81,7 +81,7 @@ module _ (n : ℕ) (b : Lent) (whole : length (b .load) % load-width ≡ 0) (sho
       go false false = inl refl
 
 -- the number of an outcome
-outcome-number : (b : Lent) (o : Outcome) → Possible (outcome-answer b o .number)
+outcome-number : (b : Lent) (o : Outcome Row) → Possible (outcome-answer b o .number)
 outcome-number b store-full = inr (inr (inr (inl refl)))
 outcome-number b findings-full = inr (inr (inr (inr refl)))
 outcome-number b (accepted N F m k) = inl refl

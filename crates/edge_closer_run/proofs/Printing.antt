@@ -6,7 +6,7 @@ use mathlib.Core.List.{List, [], _∷_, _++_}
 use Prim.Native.Nat.{ℕ, zero, suc, _+_, _/_, _≤_}
 use native.Mathlib.Omega.{arith}
 use lib.ListN.{length, getD, take, replicate}
-use Rattle.common.specs.Triples.{Triple, Finding, if, no-zero, without-zero}
+use Rattle.common.specs.Triples.{Triple, Finding, if, no-zero, without-zero, erase}
 use Rattle.meaning.specs.Closure.{closure, five-counts, total}
 use Rattle.common.specs.Rows.{triples}
 use Rattle.meaning.proofs.Run.{accepted→}
@@ -21,7 +21,7 @@ use Rattle.driver_run.specs.Run.{Run-result, unchanged, run-laid, abstract-run,
 use Rattle.driver_run.specs.Values.{run-left}
 use Rattle.driver_load.specs.declared.values.RunAnswer.{RunAnswer}
 use Rattle.driver_run.specs.declared.values.RunNext.{RunNext}
-use Rattle.driver_run.proofs.Accepting.{AcceptedRun, run-accepted}
+use Rattle.driver_run.proofs.Accepting.{AcceptedRun, runs-triples, run-accepted}
 use Rattle.edge_closer_text.specs.Input.{bad-line, input, parse}
 use Rattle.edge_closer_text.specs.Output.{answer, refusal, bad-line-text}
 use Rattle.edge_decimal.specs.Contracts.{Wrote}
@@ -60,7 +60,8 @@ module _ (b : Lent) where
   outcome-counted : (tl al : ℕ) (ts : List Term) → AcceptedRun tl al ts b (abstract-run tl al ts b)
       → Counted (abstract-run tl al ts b .answer) cap fcap
   outcome-counted tl al ts r =
-      let a = accepted→ (containers (r .terms)) cap fcap (triples (b .load)) (r .answer) (r .row) (r .n) (r .k) (r .runs) in
+      let a = accepted→ (containers (r .terms)) cap fcap (triples (b .load)) (erase (r .rows)) (r .row) (r .n) (r .k)
+      (runs-triples b (r .terms) (r .runs)) in
       let ks : total (r .k) ≡ length (r .row) = ap total (a .counts)
       ∙ subst (λ (G : List Finding). total (five-counts G) ≡ length G) (sym (a .found))
       (total-findings (closure (containers (r .terms)) (suc cap) (triples (b .load)))) in

@@ -130,76 +130,80 @@ line-short (n ∷ ns) f =
     simp length-append (omega arith)
 
 -- the loop: what is left gives the same as the whole, and no number takes more bytes than its width
-pub record Tabled (ns : List ℕ) (w rows : ℕ) (old : List ℕ) (at : ℕ) (new : List ℕ) (to start i : ℕ) : Type 0 where
+pub record Tabled (ns : List ℕ) (w c rows : ℕ) (old : List ℕ) (at : ℕ) (new : List ℕ) (to start i : ℕ) : Type 0 where
   pub text : List ℕ
   pub wrote : Wrote old at text new to
-  pub left : text ++ table w (rows - i) (drop start ns) ≡ table w rows ns
+  pub left : text ++ table w c (rows - i) (drop start ns) ≡ table w c rows ns
   pub place : start ≡ w * i
   pub upto : i ≤ rows
-  pub room : to ≤ at + number-width * start
+  pub room : to ≤ at + number-width * (c * i)
 
 -- nothing was written
-pub tabled-start : {ns : List ℕ} {w rows : ℕ} {old : List ℕ} {at : ℕ} → TableFits ns w rows old at → Tabled ns w rows old at old at 0 0
-tabled-start {ns} {w} {rows} {old} {at} f = record {
+pub tabled-start : {ns : List ℕ} {w c rows : ℕ} {old : List ℕ} {at : ℕ} → TableFits ns w c rows old at
+    → Tabled ns w c rows old at old at 0 0
+tabled-start {ns} {w} {c} {rows} {old} {at} f = record {
   text = [];
   wrote = wrote-none old at (let r = f .room in omega arith);
   left = let z : rows - 0 ≡ rows = omega arith in rw z refl;
   place = sym (mul-zero w);
   upto = omega arith;
-  room = omega arith;
+  room = omega (arith, mul-zero c);
 }
 
-module _ {ns : List ℕ} {w rows : ℕ} {old : List ℕ} {at : ℕ} {new : List ℕ} {to start i : ℕ} (f : TableFits ns w rows old at)
-    (c : Tabled ns w rows old at new to start i) where
+module _ {ns : List ℕ} {w c rows : ℕ} {old : List ℕ} {at : ℕ} {new : List ℕ} {to start i : ℕ} (f : TableFits ns w c rows old at)
+    (t : Tabled ns w c rows old at new to start i) where
   -- the buffer keeps its length
   pub tabled-length : length new ≡ length old
-  tabled-length = wrote-length (c .wrote)
+  tabled-length = wrote-length (t .wrote)
 
   -- the whole table
-  pub tabled-end : rows ≤ i → Wrote old at (table w rows ns) new to
+  pub tabled-end : rows ≤ i → Wrote old at (table w c rows ns) new to
   unfolding table
   tabled-end h =
       let z : rows - i ≡ 0 = omega arith in
-      let e : c .text ≡ table w rows ns = sym (append-nil (c .text)) ∙ (rw z at (c .left)) in
-      rw (← e) (c .wrote)
+      let e : t .text ≡ table w c rows ns = sym (append-nil (t .text)) ∙ (rw z at (t .left)) in
+      rw (← e) (t .wrote)
 
   module _ (h : i < rows) where
     -- the next row
     pub tabled-row : start + w ≤ length ns
-    tabled-row = let a = rows-apart w i rows h in let p = c .place in let g = f .held in omega arith
+    tabled-row = let a = rows-apart w i rows h in let p = t .place in let g = f .held in omega arith
 
-    -- it has w numbers
-    part-length : length (part ns start (start + w)) ≡ w
-    part-length = let g = tabled-row in let d = length-drop start ns in simp length-take (omega arith)
+    -- its part that is printed
+    pub tabled-part : start + c ≤ length ns
+    tabled-part = let a = tabled-row in let g = f .within in omega arith
+
+    -- that has c numbers
+    part-length : length (part ns start (start + c)) ≡ c
+    part-length = let g = tabled-part in let d = length-drop start ns in simp length-take (omega arith)
 
     -- there is room for its line
-    pub tabled-fits : to + number-width * length (part ns start (start + w)) ≤ length new
+    pub tabled-fits : to + number-width * length (part ns start (start + c)) ≤ length new
     tabled-fits =
-        let a = rows-apart w i rows h in
-        let p = c .place in
-        let r = c .room in
+        let a = rows-apart c i rows h in
+        let r = t .room in
         let g = f .room in
         let l = tabled-length in
         let n = part-length in
         omega arith
 
     -- one row more
-    pub tabled-step : {after : List ℕ} {next : ℕ} → Words ns → Wrote new to (line (part ns start (start + w))) after next
-        → Tabled ns w rows old at after next (start + w) (i + 1)
+    pub tabled-step : {after : List ℕ} {next : ℕ} → Words ns → Wrote new to (line (part ns start (start + c))) after next
+        → Tabled ns w c rows old at after next (start + w) (i + 1)
     unfolding table
     tabled-step q v = record {
-      text = c .text ++ line (part ns start (start + w));
-      wrote = wrote-then (c .wrote) v;
+      text = t .text ++ line (part ns start (start + c));
+      wrote = wrote-then (t .wrote) v;
       left =
           let k : rows - i ≡ suc (rows - (i + 1)) = omega arith in
-          let g : start + w - start ≡ w = omega arith in
-          rw (append-assoc, g, ← drop-drop w start ns) (rw k at (c .left));
-      place = let p = c .place in rw (add-one i, mul-suc w i) (omega arith);
+          let g : start + c - start ≡ c = omega arith in
+          rw (append-assoc, g, ← drop-drop w start ns) (rw k at (t .left));
+      place = let p = t .place in rw (add-one i, mul-suc w i) (omega arith);
       upto = omega arith;
       room =
-          let s = line-short (part ns start (start + w)) (words-take (start + w - start) (drop start ns) (words-drop start ns q)) in
+          let s = line-short (part ns start (start + c)) (words-take (start + c - start) (drop start ns) (words-drop start ns q)) in
           let n = part-length in
           let e = v .end in
-          let r = c .room in
-          omega arith;
+          let r = t .room in
+          rw (add-one i, mul-suc c i) (omega arith);
     }

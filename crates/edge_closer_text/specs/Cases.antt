@@ -32,11 +32,12 @@ cases =
     read "3\n31 1 32\n32 8 33\n" (input 3 (31 ∷ 1 ∷ 32 ∷ 32 ∷ 8 ∷ 33 ∷ [])) ∷
     read "0\n0 1 4294967295\n" (input 0 (0 ∷ 1 ∷ 4294967295 ∷ [])) ∷
     read "3\n31 1 32\n32 8\n33\n" (bad-line 3) ∷
-    -- an accepted run of the worked example, one with a finding, a refused run, a bad line, a name
-    print (answer (9 ∷ 1 ∷ 9 ∷ 9 ∷ 1 ∷ 30 ∷ 10 ∷ 1 ∷ 9 ∷ 10 ∷ 1 ∷ 30 ∷ 31 ∷ 1 ∷ 9 ∷ 31 ∷ 1 ∷ 32 ∷ 31 ∷ 1 ∷ 33 ∷ 32 ∷ 1 ∷ 9 ∷ 32
-    ∷ 8 ∷ 33 ∷ 0 ∷ 0 ∷ 0 ∷ []) 9 [] 0)
+    -- an accepted run of the worked example, of whose rows pass and rule are not printed; one with a finding, a refused run, a bad line, a
+    -- name
+    print (answer (9 ∷ 1 ∷ 9 ∷ 1 ∷ 1 ∷ 9 ∷ 1 ∷ 30 ∷ 0 ∷ 0 ∷ 10 ∷ 1 ∷ 9 ∷ 1 ∷ 1 ∷ 10 ∷ 1 ∷ 30 ∷ 0 ∷ 0 ∷ 31 ∷ 1 ∷ 9 ∷ 1 ∷ 1
+    ∷ 31 ∷ 1 ∷ 32 ∷ 0 ∷ 0 ∷ 31 ∷ 1 ∷ 33 ∷ 1 ∷ 14 ∷ 32 ∷ 1 ∷ 9 ∷ 1 ∷ 1 ∷ 32 ∷ 8 ∷ 33 ∷ 0 ∷ 0 ∷ 0 ∷ 0 ∷ 0 ∷ 0 ∷ 0 ∷ []) 9 [] 0)
     "0 9 0\n9 1 9\n9 1 30\n10 1 9\n10 1 30\n31 1 9\n31 1 32\n31 1 33\n32 1 9\n32 8 33\n" ∷
-    print (answer (9 ∷ 1 ∷ 9 ∷ []) 1 (1 ∷ 31 ∷ 32 ∷ 33 ∷ 0 ∷ 0 ∷ 0 ∷ 0 ∷ 0 ∷ 0 ∷ []) 1) "0 1 1\n9 1 9\n1 31 32 33 0\n" ∷
+    print (answer (9 ∷ 1 ∷ 9 ∷ 1 ∷ 1 ∷ []) 1 (1 ∷ 31 ∷ 32 ∷ 33 ∷ 0 ∷ 0 ∷ 0 ∷ 0 ∷ 0 ∷ 0 ∷ []) 1) "0 1 1\n9 1 9\n1 31 32 33 0\n" ∷
     print (refusal 8) "8 0 0\n" ∷
     print (bad-line-text 4294967295) "bad line 4294967295\n" ∷
     print (name 500) "urn:t500" ∷

@@ -7,7 +7,7 @@ use Prim.Native.Nat.{ℕ, _+_, _-_, _*_, _≤_, _<_}
 use lib.ListN.{length, take, drop}
 use lib.Seq.{sets}
 use Rattle.common.specs.Sizes.{load-width, store-width, finding-width}
-use Rattle.edge_closer_text.specs.Sizes.{line-limit, number-width, three-width}
+use Rattle.edge_closer_text.specs.Sizes.{line-limit, triple-width, number-width, three-width}
 use Rattle.edge_closer_text.specs.Input.{fields, id-line, Parsed, bad-line, input, read, parse}
 use Rattle.edge_closer_text.specs.declared.input.Spaces.{Spaces}
 use Rattle.edge_closer_text.specs.declared.input.Spaces.the-variants.{Two, Other}
@@ -52,13 +52,14 @@ pub record ParseOf (text old : List ℕ) (r : Answer) (new : List ℕ) : Type 0 
   pub ids : new ≡ sets old 0 (read text .ids)
   pub few : lines-of r ≤ line-limit
 
--- rows of `width` numbers, and room for a line each
-pub record TableFits (numbers : List ℕ) (width rows : ℕ) (out : List ℕ) (at : ℕ) : Type 0 where
+-- rows of `width` numbers, of which the first `printed` are printed, and room for a line each
+pub record TableFits (numbers : List ℕ) (width printed rows : ℕ) (out : List ℕ) (at : ℕ) : Type 0 where
+  pub within : printed ≤ width
   pub held : width * rows ≤ length numbers
-  pub room : at + number-width * (width * rows) ≤ length out
+  pub room : at + number-width * (printed * rows) ≤ length out
 
 -- the triples and findings that are counted, and room for a line each and one for the counts
 pub record AnswerFits (store : List ℕ) (triples : ℕ) (findings : List ℕ) (records : ℕ) (out : List ℕ) : Type 0 where
   pub stored : store-width * triples ≤ length store
   pub found : finding-width * records ≤ length findings
-  pub room : three-width + number-width * (store-width * triples + finding-width * records) ≤ length out
+  pub room : three-width + number-width * (triple-width * triples + finding-width * records) ≤ length out

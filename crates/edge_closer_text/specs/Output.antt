@@ -7,6 +7,7 @@ use Rattle.common.specs.Sizes.{store-width, finding-width}
 use Rattle.common.specs.Text.{text}
 use Rattle.common.specs.Triples.{Triple, Finding, concat-map}
 use Rattle.edge_decimal.specs.Decimal.{digits}
+use Rattle.edge_closer_text.specs.Sizes.{triple-width}
 
 -- the byte after a number of a line: a space where others follow it, the line feed where none does
 abbrev pub ending : ℕ → ℕ
@@ -18,10 +19,10 @@ unfoldable pub line : List ℕ → List ℕ
 line [] = []
 line (n ∷ ns) = digits n ++ (ending (length ns) ∷ line ns)
 
--- the first k rows of w numbers each, a line a row
-unfoldable pub table : ℕ → ℕ → List ℕ → List ℕ
-table w zero ns = []
-table w (suc k) ns = line (take w ns) ++ table w k (drop w ns)
+-- of each of the first k rows of w numbers its first c numbers, a line a row
+unfoldable pub table : ℕ → ℕ → ℕ → List ℕ → List ℕ
+table w c zero ns = []
+table w c (suc k) ns = line (take c ns) ++ table w c k (drop w ns)
 
 -- what an accepted run prints, of its triples and findings
 abbrev pub printed : List Triple → List Finding → List ℕ
@@ -29,10 +30,12 @@ printed ts fs =
     line (0 ∷ length ts ∷ length fs ∷ [])
     ++ (concat-map ts (λ t. line (t .s ∷ t .p ∷ t .o ∷ [])) ++ concat-map fs (λ x. line (x .check ∷ x .a ∷ x .b ∷ x .c ∷ x .d ∷ [])))
 
--- the same, of a store and findings that hold so many rows; proofs/Printing.antt shows that it is (answer-printed)
+-- the same, of a store and findings that hold so many rows: of a store's row its triple, not its pass and rule. proofs/Printing.antt shows
+-- that it is the same (answer-printed)
 abbrev pub answer : List ℕ → ℕ → List ℕ → ℕ → List ℕ
 answer store triples findings records =
-    line (0 ∷ triples ∷ records ∷ []) ++ (table store-width triples store ++ table finding-width records findings)
+    line (0 ∷ triples ∷ records ∷ [])
+    ++ (table store-width triple-width triples store ++ table finding-width finding-width records findings)
 
 -- a refused run
 abbrev pub refusal : ℕ → List ℕ

@@ -24,6 +24,10 @@ line-over-limit = line-limit + 2
 abbrev pub ids-length : ℕ
 ids-length = load-width * line-limit
 
+-- how many numbers of a store's row are printed: its triple
+abbrev pub triple-width : ℕ
+triple-width = 3
+
 -- the most bytes of a number of 32 bits, ten digits, with the byte after it; of the count; and of a line of three numbers
 abbrev pub number-width : ℕ
 number-width = 11
@@ -61,6 +65,6 @@ store-length = store-width * triple-limit
 abbrev pub findings-length : ℕ
 findings-length = finding-width * record-limit
 
--- room to print all of them, after a line of three numbers
+-- room to print the triples and the records, after a line of three numbers
 abbrev pub output-length : ℕ
-output-length = three-width + number-width * (store-length + findings-length)
+output-length = three-width + number-width * (triple-width * triple-limit + findings-length)

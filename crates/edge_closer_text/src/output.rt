@@ -19,13 +19,16 @@ pub const STORE: usize = STORE_WIDTH * TRIPLE_LIMIT;
 
 pub const FINDINGS: usize = FINDING_WIDTH * RECORD_LIMIT;
 
+// How many numbers of a store's row are printed: its triple.
+const TRIPLE_WIDTH: usize = 3;
+
 // The most bytes of a number in print, ten digits, with the byte after it; and of a line of three.
 pub const NUMBER_WIDTH: usize = 11;
 
 pub const THREE_WIDTH: usize = 3 * NUMBER_WIDTH;
 
-// Room to print store and findings, after a line of the counts.
-pub const OUTPUT: usize = THREE_WIDTH + NUMBER_WIDTH * (STORE + FINDINGS);
+// Room to print the triples of the store and the findings, after a line of the counts.
+pub const OUTPUT: usize = THREE_WIDTH + NUMBER_WIDTH * (TRIPLE_WIDTH * TRIPLE_LIMIT + FINDINGS);
 
 // The most bytes of a name.
 pub const NAME: usize = 15;
@@ -66,18 +69,25 @@ pub fn put_line(numbers: &[u32], out: &mut [u8], at: usize) -> usize
     to
 }
 
-// Writes the first `rows` rows of `width` numbers each, a line a row.
-pub fn put_table(numbers: &[u32], width: usize, rows: usize, out: &mut [u8], at: usize) -> usize
-    requires { ⌜ TableFits (now numbers) width rows (now out) at ⌝ }
-    ensures { λ r. ⌜ Wrote (now (out .entry)) at (table width rows (now (numbers .entry))) (now (out .exit)) r ⌝ }
+// Writes the first `printed` numbers of each of the first `rows` rows of `width` numbers, a line a row.
+pub fn put_table(
+    numbers: &[u32],
+    width: usize,
+    printed: usize,
+    rows: usize,
+    out: &mut [u8],
+    at: usize,
+) -> usize
+    requires { ⌜ TableFits (now numbers) width printed rows (now out) at ⌝ }
+    ensures { λ r. ⌜ Wrote (now (out .entry)) at (table width printed rows (now (numbers .entry))) (now (out .exit)) r ⌝ }
 {
     let mut to = at;
     let mut start = 0;
     let mut i = 0;
     while i < rows {
-        let end = start + width;
+        let end = start + printed;
         to = put_line(&numbers[start..end], &mut *out, to);
-        start = end;
+        start += width;
         i += 1;
     }
     to
@@ -97,8 +107,22 @@ pub fn print_answer(
 {
     let head = [0u32, triples, records];
     let first = put_line(&head, &mut *out, 0);
-    let next = put_table(store, STORE_WIDTH, triples as usize, &mut *out, first);
-    put_table(findings, FINDING_WIDTH, records as usize, &mut *out, next)
+    let next = put_table(
+        store,
+        STORE_WIDTH,
+        TRIPLE_WIDTH,
+        triples as usize,
+        &mut *out,
+        first,
+    );
+    put_table(
+        findings,
+        FINDING_WIDTH,
+        FINDING_WIDTH,
+        records as usize,
+        &mut *out,
+        next,
+    )
 }
 
 // A refused run: its number and two zeros.

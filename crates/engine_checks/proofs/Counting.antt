@@ -116,7 +116,7 @@ count-insert-all : (k : ℕ) (xs us : List Finding) → Distinct xs → ((x : Fi
 unfolding insert-all count-of
 count-insert-all k [] us d f = omega arith
 count-insert-all k (x ∷ xs) us d f =
-    count-insert-all k xs (insert key-finding x us) (d .1) (λ y i j. apart y i (in-insert→ key-finding finding-tells x us j))
+    count-insert-all k xs (insert key-finding x us) (d .1) (λ y i j. apart y i (in-insert→ key-finding x us j))
     ∙ (let e = count-insert k x us (f x (here refl)) in let g = count-cons k x xs in omega arith)
   where
     apart : (y : Finding) → In y xs → (y ≡ x) ⊎ In y us → ⊥

@@ -36,7 +36,7 @@ sorted xs = insert-all key-finding xs []
 
 in-sorted→ : (xs : List Finding) {z : Finding} → In z (sorted xs) → In z xs
 unfolding sorted
-in-sorted→ xs h = ⊎-elim (λ i. i) (λ i. absurd (in-nil i)) (in-insert-all→ key-finding finding-tells xs [] h)
+in-sorted→ xs h = ⊎-elim (λ i. i) (λ i. absurd (in-nil i)) (in-insert-all→ key-finding xs [] h)
 
 in-sorted← : (xs : List Finding) {z : Finding} → In z xs → In z (sorted xs)
 unfolding sorted
@@ -48,7 +48,7 @@ length-sorted xs d = insert-distinct key-finding finding-tells xs [] d (λ x i j
 
 ascending-sorted : (xs : List Finding) → Ascending key-finding (sorted xs)
 unfolding sorted
-ascending-sorted xs = ascending-insert-all key-finding finding-tells xs [] tt
+ascending-sorted xs = ascending-insert-all key-finding xs [] tt
 
 -- a finding is one of the list
 module _ {l : List ℕ} {n : ℕ} where
@@ -83,8 +83,8 @@ module _ {l : List ℕ} {n : ℕ} {f f₁ : List ℕ} {r : Checked} (p : Appende
     same-length = p .same-length;
   }
 
-  module _ (e : r .full ≡ false) {f₂ f₃ : List ℕ} (s : Sorted finding-width (r .n) f₁ f₂) (q : f₃ ≡ cleared (finding-width * r .n) f₂)
-      (long : length f₃ ≡ length f) where
+  module _ (e : r .full ≡ false) {f₂ f₃ : List ℕ} (s : Sorted finding-width finding-width (r .n) f₁ f₂)
+      (q : f₃ ≡ cleared (finding-width * r .n) f₂) (long : length f₃ ≡ length f) where
     the-findings : sorted (finding-rows (r .n) f₁) ≡ findings (rows n l)
     the-findings =
         same-list key-finding (sorted (finding-rows (r .n) f₁)) (findings (rows n l))

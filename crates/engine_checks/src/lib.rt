@@ -343,7 +343,7 @@ pub fn check(store: &[u32], hash: &[u32], ix: &[u32], n: usize, findings: &mut [
         return found;
     }
     let count = found.n;
-    sort_rows(&mut *findings, FINDING_WIDTH, count);
+    sort_rows(&mut *findings, FINDING_WIDTH, FINDING_WIDTH, count);
     clear_from(&mut *findings, FINDING_WIDTH * count);
     found
 }

@@ -71,11 +71,11 @@ module _ (S : Graph) (M : ListSets) where
 -- the findings computed from a list: ascending, and exactly the records whose check holds in it
 pub findings-ascending : (ts : List Triple) → Ascending key-finding (findings ts)
 unfolding findings insert-all
-findings-ascending ts = ascending-insert-all key-finding finding-tells (consequences checks (λ l. []) ts) [] tt
+findings-ascending ts = ascending-insert-all key-finding (consequences checks (λ l. []) ts) [] tt
 
 pub findings→ : (ts : List Triple) {x : Finding} → In x (findings ts) → Found (graph-of ts) (x .check) (x .a) (x .b) (x .c) (x .d)
 unfolding insert-all findings
-findings→ ts {x} h = go (in-insert-all→ key-finding finding-tells (consequences checks (λ l. []) ts) [] h)
+findings→ ts {x} h = go (in-insert-all→ key-finding (consequences checks (λ l. []) ts) [] h)
   where
     go : In x (consequences checks (λ l. []) ts) ⊎ In x [] → Found (graph-of ts) (x .check) (x .a) (x .b) (x .c) (x .d)
     go (inl i) = table→found (graph-of ts) (sets-of (λ l. [])) x (follows→ checks ts (λ l. []) x i)

@@ -8,9 +8,12 @@ pub mod Lists
 pub mod Groups
 pub mod Closure
 pub mod Start
+pub mod Passes
+pub mod Depths
 pub mod LoadClosure
 pub mod Batch
 pub mod Run
+pub mod RowsRun
 pub mod Refusals
 pub mod Ids
 pub mod Cases

@@ -5,6 +5,8 @@ pub mod Containers
 pub mod Start
 pub mod Table
 pub mod Closure
+pub mod Passes
 pub mod Run
+pub mod RowsRun
 pub mod Batch
 pub mod Cases

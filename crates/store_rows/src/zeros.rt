@@ -1,6 +1,6 @@
 // Rows that have an id 0, taken out.
 use crate::store::put_row;
-use crate::store::row;
+use crate::store::whole_row;
 use common::Triple;
 ghost use mathlib.Core.Path.{_≡_};
 ghost use Prim.Native.Nat.{_*_, _≤_};
@@ -31,12 +31,12 @@ pub fn remove_zero_rows(store: &mut [u32], n: usize) -> usize
     let mut kept = 0;
     let mut i = 0;
     while i < n {
-        let t = row(&*store, i);
+        let r = whole_row(&*store, i);
         i += 1;
-        if !no_zero(t) {
+        if !no_zero(r.it) {
             continue;
         }
-        put_row(&mut *store, kept, t);
+        put_row(&mut *store, kept, r);
         kept += 1;
     }
     kept

@@ -2,5 +2,6 @@
 pub mod answer; // answer.rt: what stands in the store at the end
 pub mod sort; // sort.rt: rows of any width, put in order in place
 
+pub use answer::TRIPLE;
 pub use answer::leave_answer;
 pub use sort::sort_rows;

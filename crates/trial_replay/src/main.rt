@@ -21,7 +21,7 @@ const CELLS: usize = LOAD + LOAD_ROOM;
 const SAVED: usize = LOAD;
 
 // Room for the text.
-const TEXT: usize = 720000;
+const TEXT: usize = 800000;
 
 // The line that ends a list.
 const END: u32 = 7;

@@ -1,33 +1,41 @@
 // What the measurements of crates rows and sort link: the sort, and appending with repeats. The harness is harness/rows_bench.
 use common::FINDING_WIDTH;
 use common::STORE_WIDTH;
+use store_rows::Pass;
 use store_rows::add;
-use store_rows::row;
+use store_rows::load_row;
+use store_sort::TRIPLE;
 use store_sort::sort_rows;
 ghost use Rattle.common.specs.Sizes.{store-width, finding-width};
 ghost use Rattle.store_rows.specs.Store.{Good};
 ghost use Rattle.store_sort.specs.Sorted.{Fits, Sorted};
 ghost use Rattle.trial_rows_bench.specs.Load.{Load, Appended};
 
+// The pass of the triples that are appended.
+const ONE_PASS: Pass = Pass {
+    first: 0,
+    number: 0,
+};
+
 // Rows of the store.
 #[no_mangle]
 pub extern "C" fn rows_bench_sort_triples(buf: &mut [u32], n: usize)
-    requires { ⌜ Fits store-width n (now buf) ⌝ }
-    ensures { λ _. ⌜ Sorted store-width n (now (buf .entry)) (now (buf .exit)) ⌝ }
+    requires { ⌜ Fits store-width 3 n (now buf) ⌝ }
+    ensures { λ _. ⌜ Sorted store-width 3 n (now (buf .entry)) (now (buf .exit)) ⌝ }
 {
-    sort_rows(&mut *buf, STORE_WIDTH, n);
+    sort_rows(&mut *buf, STORE_WIDTH, TRIPLE, n);
 }
 
 // Rows of findings.
 #[no_mangle]
 pub extern "C" fn rows_bench_sort_findings(buf: &mut [u32], n: usize)
-    requires { ⌜ Fits finding-width n (now buf) ⌝ }
-    ensures { λ _. ⌜ Sorted finding-width n (now (buf .entry)) (now (buf .exit)) ⌝ }
+    requires { ⌜ Fits finding-width finding-width n (now buf) ⌝ }
+    ensures { λ _. ⌜ Sorted finding-width finding-width n (now (buf .entry)) (now (buf .exit)) ⌝ }
 {
-    sort_rows(&mut *buf, FINDING_WIDTH, n);
+    sort_rows(&mut *buf, FINDING_WIDTH, FINDING_WIDTH, n);
 }
 
-// Appends the rows of the load to a store of no rows, and answers how many it has then.
+// Appends the triples of the load to a store of no rows, and answers how many it has then.
 #[no_mangle]
 pub extern "C" fn rows_bench_append(
     load: &[u32],
@@ -41,7 +49,7 @@ pub extern "C" fn rows_bench_append(
     let mut n = 0;
     let mut k = 0;
     while k < count {
-        let a = add(&mut *store, &mut *hash, n, row(load, k));
+        let a = add(&mut *store, &mut *hash, n, ONE_PASS, 0, load_row(load, k));
         n = a.n;
         k += 1;
     }

@@ -1,6 +1,7 @@
 //! One call on lent bytes, performed by the port and by the model, and what it leaves.
 
 use model::bytes as ours;
+use model::STORE_WIDTH;
 use tablestork::port;
 
 /// A table, an arena and the two counters, as bytes lent to a call.
@@ -130,6 +131,19 @@ fn shown(file: &[u8]) -> String {
     }
 }
 
+/// The first row in which two stores differ, each row as s, p, o, pass and rule.
+fn first_row_apart(port: &[u8], model: &[u8]) -> String {
+    let rows = |store: &[u8]| store.chunks_exact(4 * STORE_WIDTH).map(<[u8]>::to_vec).collect::<Vec<_>>();
+    let shown = |row: &[u8]| {
+        let numbers = row.chunks_exact(4).map(|b| u32::from_le_bytes(b.try_into().expect("four bytes")).to_string());
+        numbers.collect::<Vec<_>>().join(" ")
+    };
+    match rows(port).iter().zip(rows(model)).enumerate().find(|(_, (p, m))| *p != m) {
+        Some((k, (p, m))) => format!("  row {k} of the store: {} in the port, {} in the model\n", shown(p), shown(&m)),
+        None => String::new(),
+    }
+}
+
 /// Says where two outcomes differ.
 pub fn difference(port: &After, model: &After) -> String {
     let mut text = String::new();
@@ -157,6 +171,9 @@ pub fn difference(port: &After, model: &After) -> String {
         buffer("load", p, load);
         buffer("file", p_file, file);
         text += &format!("  file: {}\n", shown(file));
+    }
+    if let (Call::Run(p), Call::Run(m)) = (&port.call, &model.call) {
+        text += &first_row_apart(&p.store, &m.store);
     }
     text
 }

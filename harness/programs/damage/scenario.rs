@@ -5,7 +5,7 @@ use crate::reads;
 use generate::{names, small, Random, FIRST};
 use model::calls::starting_triples;
 use model::dictionary::{self as dict, Term};
-use model::{Triple, FINDINGS_LIMIT, LOAD_LIMIT, STORE_LIMIT};
+use model::{Triple, FINDINGS_LIMIT, FINDING_WIDTH, LOAD_LIMIT, LOAD_WIDTH, STORE_LIMIT, STORE_WIDTH};
 
 const ENTRIES: usize = 31;
 const BYTES: usize = 1_325;
@@ -169,14 +169,28 @@ pub fn run(d: &Dictionary, r: &mut Random) -> Run {
         _ => 2 * (count + 3),
     };
     let bytes: Vec<u8> = load.as_flattened().iter().flat_map(|n| n.to_le_bytes()).collect();
-    let (load_len, store_len, findings_len) = (about(bytes.len(), 3, r), about(12 * store, 3, r), about(20 * findings, 5, r));
+    let load_len = about(bytes.len(), LOAD_WIDTH, r);
+    let (store_len, findings_len) = (store_length(store, r), about(4 * FINDING_WIDTH * findings, FINDING_WIDTH, r));
     let work_len = 4 * work + if r.percent(2) { r.below(4) } else { 0 };
     let mut load = bytes;
     load.resize(load_len, 1);
     Run { load, store: filled(store_len, r), findings: filled(findings_len, r), work: filled(work_len, r) }
 }
 
-/// How many triples and records the load comes to.
+/// Bytes for so many rows, or so many and some numbers; or for as many triples without a pass and a rule, which may be whole rows too.
+fn store_length(rows: usize, r: &mut Random) -> usize {
+    let whole = 4 * STORE_WIDTH * rows;
+    match r.below(60) {
+        0 => whole + 4 * r.below(STORE_WIDTH),
+        1 => whole.saturating_sub(4 * r.below(STORE_WIDTH)),
+        2 => 4 * LOAD_WIDTH * rows,
+        3 => 4 * LOAD_WIDTH * (rows + r.below(STORE_WIDTH)),
+        4 => 4 * LOAD_WIDTH * STORE_WIDTH * (rows.div_ceil(LOAD_WIDTH) + r.below(3)).saturating_sub(1),
+        _ => about(whole, STORE_WIDTH, r),
+    }
+}
+
+/// How many triples and findings the load comes to.
 fn sizes(terms: &[Term], load: &[Triple]) -> (usize, usize) {
     let mut all = terms.to_vec();
     all.extend(dict::run_terms().into_iter().filter(|t| !terms.contains(t)));

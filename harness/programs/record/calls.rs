@@ -2,6 +2,7 @@
 
 use crate::memory::*;
 use crate::text::Text;
+use model::{LOAD_WIDTH, STORE_WIDTH};
 
 /// What a lent buffer holds before a run or a read, so that a number left alone shows.
 const MARK: u32 = 7;
@@ -119,14 +120,32 @@ fn holds(text: &Text, r: Region, numbers: &[u32]) {
     assert!(others.iter().all(|n| *n == 0), "zeros after them");
 }
 
+/// A row of a store: subject, predicate, object, pass and rule.
+pub type Row = [u32; STORE_WIDTH];
+
+/// The numbers of a store with room for so many rows.
+pub fn rows(count: usize) -> usize {
+    STORE_WIDTH * count
+}
+
+/// The triples of rows, as a load has them.
+pub fn loaded(rows: &[Row]) -> Vec<u32> {
+    rows.iter().flat_map(|row| &row[..LOAD_WIDTH]).copied().collect()
+}
+
+/// The rows of the same triples where they are loaded: starting triples.
+pub fn starting(rows: &[Row]) -> Vec<Row> {
+    rows.iter().map(|[s, p, o, _, _]| [*s, *p, *o, 0, 0]).collect()
+}
+
 /// A run that is accepted: the answer, then zeros; the findings, then zeros; a list work buffer of zeros.
 #[track_caller]
-pub fn accept(text: &mut Text, lent: &Lent, answer: &[u32], found: &[u32], after: Counters) {
-    run(text, lent, 0, answer.len() / 3, after);
+pub fn accept(text: &mut Text, lent: &Lent, answer: &[Row], found: &[u32], after: Counters) {
+    run(text, lent, 0, answer.len(), after);
     let mut counts = [0; 5];
     found.chunks(5).for_each(|record| counts[record[0] as usize - 1] += 1);
     assert_eq!(text.memory().0[COUNTS..COUNTS + 5], counts, "five counts");
-    holds(text, STORE, answer);
+    holds(text, STORE, answer.as_flattened());
     holds(text, FINDINGS, found);
     holds(text, WORK, &[]);
 }
@@ -163,7 +182,7 @@ fn read(text: &mut Text, file: &[u8], load: usize, number: u32, count: usize, af
 /// A read that is accepted: the triples, then zeros.
 #[track_caller]
 pub fn read_all(text: &mut Text, file: &[u8], load: usize, triples: &[u32], after: Counters) {
-    read(text, file, load, 0, triples.len() / 3, after);
+    read(text, file, load, 0, triples.len() / LOAD_WIDTH, after);
     holds(text, LOAD, triples);
 }
 

@@ -1,7 +1,7 @@
 //! Lists of reads, with what a file gives written down by hand: ids, triples, counters and refusals.
 
 use crate::calls::*;
-use crate::lists::{lend, ARENA_BYTES, FINDINGS_NUMBERS, TABLE_NUMBERS, WORK_NUMBERS};
+use crate::lists::{lend, ARENA_BYTES, EMPTY, FINDINGS_NUMBERS, TABLE_NUMBERS, WORK_NUMBERS};
 use crate::memory::{COUNT, LOAD, TERMS, USED};
 use crate::text::Text;
 
@@ -79,7 +79,7 @@ fn held_terms(text: &mut Text) {
     );
     let triples = [9, 1, 30, 31, 32, 34, 0, 0, 0];
     read_all(text, file.as_bytes(), 9, &triples, [40, 1403]);
-    refuse(text, &lend(&triples, 27, 5, WORK_NUMBERS), 5, [40, 1403]);
+    refuse(text, &lend(&triples, rows(9), 5, WORK_NUMBERS), 5, [40, 1403]);
 }
 
 /// Files without a triple, in a load with room and in one of no numbers; and a load of 16,385 triples.
@@ -250,28 +250,28 @@ fn first_line_that_fails(text: &mut Text) {
     read_all(text, &file([comment, ABC, comment]), 3, &[32, 33, 31], [34, 1340]);
 }
 
-/// The answer of a run of the first file's load, and what follows it where the second's is run with it.
-const FIRST_ANSWER: [u32; 27] = [9, 1, 9, 9, 1, 30, 10, 1, 9, 10, 1, 30, 31, 1, 9, 31, 1, 32, 31, 1, 33, 32, 1, 9, 32, 8, 33];
-const THEN: [u32; 12] = [37, 1, 9, 37, 1, 32, 37, 1, 33, 37, 38, 39];
+/// The answer of a run of the first file's load, behind that of an empty load, and what follows it where the second's is run with it.
+const FIRST_ANSWER: [Row; 5] = [[31, 1, 9, 1, 1], [31, 1, 32, 0, 0], [31, 1, 33, 1, 14], [32, 1, 9, 1, 1], [32, 8, 33, 0, 0]];
+const THEN: [Row; 4] = [[37, 1, 9, 1, 1], [37, 1, 32, 0, 0], [37, 1, 33, 1, 14], [37, 38, 39, 0, 0]];
 
 /// A file, a run of its load, then a refused file and a second one with more terms, and a run of the first answer with its load. One file
-/// with the lines of both gives the loads of both, and its run the same answer.
+/// with the lines of both gives the loads of both, and its run the same triples; what the first answer has are then no starting triples.
 fn read_and_run(text: &mut Text) {
     let first = format!("<urn:a> {TYPE} <urn:b> .\n<urn:b> {SUB_CLASS} <urn:c> .\n");
     let second = format!("_:x {TYPE} <urn:b> . # more\n_:x <urn:p> \"1\" .\n");
     let (one, two) = ([31, 1, 32, 32, 8, 33], [37, 1, 32, 37, 38, 39]);
-    let run = |text: &mut Text, load: &[u32], answer: &[u32], after: Counters| {
-        accept(text, &lend(load, 42, FINDINGS_NUMBERS, WORK_NUMBERS), answer, &[], after);
+    let run = |text: &mut Text, load: &[u32], answer: &[Row], after: Counters| {
+        accept(text, &lend(load, rows(14), FINDINGS_NUMBERS, WORK_NUMBERS), answer, &[], after);
     };
+    let answer = [&EMPTY[..], &FIRST_ANSWER].concat();
     begin(text, TABLE_NUMBERS, ARENA_BYTES);
     read_all(text, first.as_bytes(), 6, &one, [34, 1340]);
-    run(text, &one, &FIRST_ANSWER, [37, 1498]);
+    run(text, &one, &answer, [37, 1498]);
     read_none(text, format!("{second}x").as_bytes(), 9, 13);
     look(text, 37, 12, 0, b"");
     read_all(text, second.as_bytes(), 12, &two, [40, 1545]);
-    let (load, answer) = ([&FIRST_ANSWER[..], &two].concat(), [&FIRST_ANSWER[..], &THEN].concat());
-    run(text, &load, &answer, [40, 1545]);
+    run(text, &[&loaded(&answer)[..], &two].concat(), &[&starting(&answer)[..], &THEN].concat(), [40, 1545]);
     read_all(text, (first + &second).as_bytes(), 12, &[one, two].concat(), [40, 1545]);
-    run(text, &[one, two].concat(), &answer, [40, 1545]);
+    run(text, &[one, two].concat(), &[&answer[..], &THEN].concat(), [40, 1545]);
     look(text, 39, 0, 3, b"1\0http://www.w3.org/2001/XMLSchema#string");
 }

@@ -59,7 +59,7 @@ fn when_full(text: &mut Text) {
     put_same(text, 1, b"urn:b", 7, 0);
     put_refused(text);
     put_same(text, 2, b"urn:a", 7, 0);
-    refuse(text, &lend(&[31, 1, 32], 27, 5, 96), 7, [34, 1340]);
+    refuse(text, &lend(&[31, 1, 32], rows(9), 5, 96), 7, [34, 1340]);
     put_same(text, 3, b"urn:a", 0, 32);
     put_same(text, 1, b"urn:_", 0, 0);
     put_same(text, 1, b"http://www.w3.org/2002/07/owl#Class", 0, 30);
@@ -83,7 +83,7 @@ fn full_arena(text: &mut Text) {
     put_new(text, 1, b"urn:ab", 31, 1331);
     put_same(text, 1, b"u", 7, 0);
     put_new(text, 3, b"", 32, 1331);
-    refuse(text, &lend(&[31, 1, 32], 27, 5, 96), 7, [33, 1331]);
+    refuse(text, &lend(&[31, 1, 32], rows(9), 5, 96), 7, [33, 1331]);
     look(text, 32, 0, 3, b"");
     text.end("full arena");
 }
@@ -91,15 +91,17 @@ fn full_arena(text: &mut Text) {
 /// The run's terms have 51, 64 and 43 bytes. With a byte less than all of them none is brought.
 fn one_byte_short(text: &mut Text) {
     begin(text, TABLE_NUMBERS, 1482);
-    refuse(text, &lend(&[], 27, 5, 96), 7, [31, 1325]);
+    refuse(text, &lend(&[], rows(9), 5, 96), 7, [31, 1325]);
     put_new(text, 1, PROPERTY, 31, 1376);
-    refuse(text, &lend(&[], 27, 5, 96), 7, [32, 1376]);
+    refuse(text, &lend(&[], rows(9), 5, 96), 7, [32, 1376]);
     text.end("no room for all terms of a run");
 }
 
+/// What an empty load leaves: rule 1 gives two triples in the first pass.
+pub const EMPTY: [Row; 4] = [[9, 1, 9, 1, 1], [9, 1, 30, 0, 0], [10, 1, 9, 1, 1], [10, 1, 30, 0, 0]];
+
 fn run_empty(text: &mut Text) {
-    let answer = [9, 1, 9, 9, 1, 30, 10, 1, 9, 10, 1, 30];
-    accept(text, &lend(&[], 12, FINDINGS_NUMBERS, WORK_NUMBERS), &answer, &[], [34, 1483]);
+    accept(text, &lend(&[], rows(4), FINDINGS_NUMBERS, WORK_NUMBERS), &EMPTY, &[], [34, 1483]);
 }
 
 /// A term of the run that is held keeps its id; the others follow in their order. A second run brings none.
@@ -130,14 +132,16 @@ fn runs(text: &mut Text) {
 fn before_closing(text: &mut Text) {
     let (ragged, blank, unknown) = ([31, 1, 0, 31], [31, 1, 34, 31, 1, 0], [31, 1, 32, 34, 1, 32]);
     let as_before = [34, 1340];
-    refuse(text, &lend(&ragged, 26, 5, 96), 2, as_before);
-    refuse(text, &lend(&[0; 49155], 26, 5, 96), 3, as_before);
-    refuse(text, &lend(&blank, 26, 5, 96), 4, as_before);
-    refuse(text, &lend(&blank, 27, 4, 96), 4, as_before);
-    refuse(text, &lend(&blank, 27, 5, 73), 4, as_before);
-    refuse(text, &lend(&unknown, 27, 5, 74), 6, as_before);
-    refuse(text, &lend(&blank, 27, 5, 74), 5, as_before);
-    refuse(text, &lend(&unknown, 27, 5, 74), 6, as_before);
+    refuse(text, &lend(&ragged, rows(9) - 1, 5, 96), 2, as_before);
+    refuse(text, &lend(&[0; 49155], rows(9) - 1, 5, 96), 3, as_before);
+    for store in [rows(9) - 1, rows(9) + 1, 27, 3] {
+        refuse(text, &lend(&blank, store, 5, 96), 4, as_before);
+    }
+    refuse(text, &lend(&blank, rows(9), 4, 96), 4, as_before);
+    refuse(text, &lend(&blank, rows(9), 5, 73), 4, as_before);
+    refuse(text, &lend(&unknown, rows(9), 5, 74), 6, as_before);
+    refuse(text, &lend(&blank, rows(9), 5, 74), 5, as_before);
+    refuse(text, &lend(&unknown, rows(9), 5, 74), 6, as_before);
 }
 
 /// Nine triples and one finding: 8 before 9.
@@ -145,14 +149,15 @@ const DISJOINT: [u32; 9] = [32, 26, 33, 31, 1, 33, 31, 1, 32];
 
 fn too_small(text: &mut Text) {
     let after = [37, 1498];
-    refuse(text, &lend(&DISJOINT, 24, 0, 80), 8, after);
-    refuse(text, &lend(&DISJOINT, 27, 0, 80), 9, after);
-    refuse(text, &lend(&DISJOINT, 27, 0, 79), 4, after);
+    refuse(text, &lend(&DISJOINT, rows(8), 0, 80), 8, after);
+    refuse(text, &lend(&DISJOINT, rows(9), 0, 80), 9, after);
+    refuse(text, &lend(&DISJOINT, rows(9), 0, 79), 4, after);
 }
 
 fn just_enough(text: &mut Text) {
-    let answer = [9, 1, 9, 9, 1, 30, 10, 1, 9, 10, 1, 30, 31, 1, 9, 31, 1, 32, 31, 1, 33, 32, 1, 9, 32, 26, 33];
-    accept(text, &lend(&DISJOINT, 27, FINDINGS_NUMBERS, WORK_NUMBERS), &answer, &[1, 31, 32, 33, 0], [37, 1498]);
+    let five = [[31, 1, 9, 1, 1], [31, 1, 32, 0, 0], [31, 1, 33, 0, 0], [32, 1, 9, 1, 1], [32, 26, 33, 0, 0]];
+    let lent = lend(&DISJOINT, rows(9), FINDINGS_NUMBERS, WORK_NUMBERS);
+    accept(text, &lent, &[&EMPTY[..], &five].concat(), &[1, 31, 32, 33, 0], [37, 1498]);
     look(text, 37, 12, 0, b"");
     put_same(text, 1, b"urn:c", 0, 33);
 }

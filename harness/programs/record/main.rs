@@ -18,7 +18,7 @@ mod w3c;
 use text::Text;
 
 /// The bytes that program trial_replay has room for.
-const ROOM: usize = 720_000;
+const ROOM: usize = 800_000;
 
 fn main() {
     let Some(folder) = std::env::args().nth(1) else {

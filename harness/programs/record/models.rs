@@ -1,16 +1,15 @@
 //! The recorded models as calls: each is run three times on a dictionary of sixteen named nodes and its further terms.
 
-use crate::calls::{accept, begin, put_new, refuse, Lent};
+use crate::calls::{accept, begin, put_new, refuse, rows, Lent, Row};
+use crate::lists::EMPTY;
 use crate::memory::{ARENA, FINDINGS, STORE, TABLE, TERMS, USED};
 use crate::recorded::{Recorded, PLAIN};
 use crate::text::Text;
 use generate::{names, FIRST};
+use model::rows::Record;
 
 const ENTRIES: usize = 64;
 const BYTES: usize = 3_000;
-
-/// The triples of an empty model.
-const EMPTY: [u32; 12] = [9, 1, 9, 9, 1, 30, 10, 1, 9, 10, 1, 30];
 
 /// Terms and bytes with the sixteen, and with the three terms of a run.
 const NAMED: [u32; 2] = [47, 1428];
@@ -24,7 +23,7 @@ pub fn prepare(text: &mut Text) -> Before {
         put_new(text, kind, &bytes, id, used);
     }
     let before = Before { table: text.memory().lent(TABLE).to_vec(), arena: text.memory().lent(ARENA).to_vec() };
-    let lent = Lent { load: &[], store: 12, findings: 0, work: 100 };
+    let lent = Lent { load: &[], store: rows(4), findings: 0, work: 100 };
     accept(text, &lent, &EMPTY, &[], RUN);
     text.save();
     before
@@ -64,19 +63,19 @@ fn put_further(text: &mut Text, recorded: &Recorded, before: &Before) {
 /// With a store of exactly the closure's triples and findings of exactly its records; then with one less of each.
 fn three_runs(text: &mut Text, r: &Recorded, k: usize) {
     let load: Vec<u32> = r.model.load.concat();
-    let (answer, found) = (r.answer.concat(), r.findings.concat());
+    let (answer, found): (Vec<Row>, Vec<u32>) = (r.rows.iter().map(Record::numbers).collect(), r.findings.concat());
     let after = r.model.terms_of_a_run();
     let after = [after.len() as u32, model::dictionary::bytes_of(&after) as u32];
     let known = text.memory().0[TERMS] as usize;
     let lent = |store: usize, findings: usize, known: usize| Lent {
         load: &load,
-        store: 3 * store,
+        store: rows(store),
         findings: 5 * findings,
         work: 2 * (known + 3),
     };
     let (triples, records) = (r.closure.len(), r.findings.len());
     accept(text, &lent(triples, records, known), &answer, &found, after);
-    expect_wrong(text, answer.len(), found.len(), k);
+    expect_wrong(text, answer.as_flattened().len(), found.len(), k);
     let known = after[0] as usize;
     refuse(text, &lent(triples - 1, records, known), 8, after);
     if records > 0 {
@@ -84,7 +83,7 @@ fn three_runs(text: &mut Text, r: &Recorded, k: usize) {
     }
 }
 
-/// One number of the answer or the findings is expected wrong, at another place for each model.
+/// One number of the answer, a pass or a rule among them, or of the findings is expected wrong, at another place for each model.
 fn expect_wrong(text: &mut Text, answer: usize, found: usize, k: usize) {
     let at = 7 * k % (answer + found);
     let cell = if at < answer { STORE.first + at } else { FINDINGS.first + at - answer };

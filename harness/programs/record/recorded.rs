@@ -1,14 +1,16 @@
 //! The answers to a fixed list of models: cases after the tables of OWL 2 Profiles, cases with lists, and random ones.
 //!
 //! Inside the domain in which the original is the measure every answer is the original's, and the reference model has to agree with it;
-//! outside it is the reference model's. That model tells which rules a model needs, and which readings of its lists would show.
+//! outside it is the reference model's. Passes and rules are always the reference model's, as the original has none. That model tells which
+//! rules a model needs, and which readings of its lists would show.
 
 use crate::tables::{Case, Conclusion, ListCase, CASES, LISTS, NEAR};
 use generate::{names, small::small, word, Model, Random, FIRST};
-use model::closure::{check, close, close_mistaken, in_domain};
+use model::closure::{check, close, close_mistaken, in_domain, Mistake};
 use model::dictionary::{is_container_property, run_terms, NAMED_NODE};
 use model::mistakes::{self, OF_NIL, READINGS};
 use model::names::NAMES;
+use model::rows::{self, triples, Record};
 use model::{Finding, Triple};
 use std::fmt::Write;
 
@@ -34,6 +36,8 @@ pub struct Recorded {
     pub model: Model,
     pub closure: Vec<Triple>,
     pub answer: Vec<Triple>,
+    /// The answer with passes and rules, by the reference model.
+    pub rows: Vec<Record>,
     pub findings: Vec<Finding>,
 }
 
@@ -51,10 +55,11 @@ fn record(model: Model) -> Recorded {
 
 /// What the reference model gives under all rules but those of `without`.
 fn by_the_model(model: Model, without: u32) -> Recorded {
-    let closure = close(&model.start(), model::STORE_LIMIT, without).expect("a small closure");
-    let answer = closure.iter().copied().filter(|t| !t.contains(&0)).collect();
+    let mistake = Mistake { without, ..Mistake::default() };
+    let rows = close_mistaken(&model.start(), model::STORE_LIMIT, mistake).expect("a small closure");
+    let (closure, rows) = (triples(&rows), rows::answer(&rows));
     let findings = check(&closure).into_iter().collect();
-    Recorded { by_original: in_domain(&model.load, &closure), model, closure, answer, findings }
+    Recorded { by_original: in_domain(&model.load, &closure), model, closure, answer: triples(&rows), rows, findings }
 }
 
 /// The terms of a case: its variables urn:t1 and so on, then those of the rdf namespace, then a run's.
@@ -248,7 +253,7 @@ fn things(model: &Model, closure: &[Triple]) -> Vec<usize> {
     }
     let fits_another_store = |other: &Option<Vec<Triple>>| other.as_ref().is_some_and(|other| other.len() != closure.len());
     for (k, (_, mistake)) in (READING..).zip(mistakes::all()) {
-        let other = close_mistaken(&start, most, mistake);
+        let other = close_mistaken(&start, most, mistake).map(|rows| triples(&rows));
         if fits_another_store(&other) || shows(other) {
             things.push(k);
         }

@@ -23,8 +23,8 @@ loop-holds c =
     let at-start = c .before .before .before in
     (appended-none _ (at-start .pre .0), search needs, search needs, search needs)
 
-row-requires : tie.Need-row-requires Inv-loop μ-loop
-row-requires c κs = search needs
+load-row-requires : tie.Need-load-row-requires Inv-loop μ-loop
+load-row-requires c κs = search needs
 
 add-requires : tie.Need-add-requires Inv-loop μ-loop
 add-requires c κs =
@@ -32,7 +32,7 @@ add-requires c κs =
     let at-loop = at-loop-test .before .loop in
     let at-start = at-loop-test .before .before .before .before .before in (
       at-loop .inv .0 .rows .good,
-      subst Small (sym (c .row .ensures)) (at-start .pre .1 .small (at-loop .k) (at-loop-test .loop-test .taken)),
+      subst Small (sym (c .load-row .ensures)) (at-start .pre .1 .small (at-loop .k) (at-loop-test .loop-test .taken)),
     )
 
 add-k : tie.Need-add-k Inv-loop μ-loop
@@ -45,9 +45,9 @@ loop-again : tie.Need-loop-again Inv-loop μ-loop
 loop-again c =
     let after-store = c .before .before .before in
     let after-add = after-store .before in
-    let after-row = after-add .before in
-    let at-loop = after-row .before .before .before .before in
-    let added = extended-is (after-row .row .ensures) (after-add .add .ensures) in
+    let after-load-row = after-add .before in
+    let at-loop = after-load-row .before .before .before .before in
+    let added = extended-is (after-load-row .load-row .ensures) (after-add .add .ensures) in
     (appended-more _ (at-loop .loop .inv .0) (after-store .store .given) added, search needs, search needs, search needs)
 
 same-length : tie.Need-same-length Inv-loop μ-loop
@@ -70,7 +70,7 @@ rows-bench-append-spec =
     Inv-loop
     μ-loop
     loop-holds
-    row-requires
+    load-row-requires
     add-requires
     add-k
     loop-less

@@ -2,16 +2,16 @@
 use Prim.Native.Nat.{_-_}
 use native.Mathlib.Omega.{arith}
 use borrow.Author.Needs.{needs}
-use Rattle.edge_closer_text.proofs.Writing.{Tabled, tabled-start, tabled-length, tabled-row, tabled-fits, tabled-step}
-use Rattle.edge_closer_text.proofs.Writing.{tabled-end}
+use Rattle.edge_closer_text.proofs.Writing.{Tabled, tabled-start, tabled-length, tabled-row, tabled-part, tabled-fits}
+use Rattle.edge_closer_text.proofs.Writing.{tabled-step, tabled-end}
 use Rattle.edge_closer_text.proofs.output.put_table.Statement.{statement}
 use Rattle.edge_closer_text.proofs.output.put_table.Tie as tie
 
 abbrev Inv-loop : tie.InvT-loop
-Inv-loop numbers width rows out₀ at to₀ start₀ i₀ out to start i = Tabled numbers width rows out₀ at out to start i
+Inv-loop numbers width printed rows out₀ at to₀ start₀ i₀ out to start i = Tabled numbers width printed rows out₀ at out to start i
 
 abbrev μ-loop : tie.MeasureT-loop
-μ-loop numbers width rows out₀ at to₀ start₀ i₀ out to start i = rows - i
+μ-loop numbers width printed rows out₀ at to₀ start₀ i₀ out to start i = rows - i
 
 loop-holds : tie.Need-loop-holds Inv-loop μ-loop
 loop-holds c = tabled-start (c .before .before .pre)
@@ -19,14 +19,14 @@ loop-holds c = tabled-start (c .before .before .pre)
 add-end : tie.Need-add-end Inv-loop μ-loop
 add-end c =
     let at-start = c .before .before .before .before in
-    let r = tabled-row (at-start .pre) (c .before .loop .inv) (c .loop-test .taken) in
+    let r = tabled-part (at-start .pre) (c .before .loop .inv) (c .loop-test .taken) in
     let g = at-start .good in
     omega arith
 
 mul-put-line : tie.Need-mul-put-line Inv-loop μ-loop
 mul-put-line c =
     let at-start = c .before .before .before .before in
-    let r = tabled-row (at-start .pre) (c .before .loop .inv) (c .loop-test .taken) in
+    let r = tabled-part (at-start .pre) (c .before .loop .inv) (c .loop-test .taken) in
     let g = at-start .good in
     omega arith
 
@@ -39,7 +39,7 @@ part-put-line-start c = search needs
 part-put-line-end : tie.Need-part-put-line-end Inv-loop μ-loop
 part-put-line-end c =
     let at-start = c .before .before .before .before in
-    let r = tabled-row (at-start .pre) (c .before .loop .inv) (c .loop-test .taken) in
+    let r = tabled-part (at-start .pre) (c .before .loop .inv) (c .loop-test .taken) in
     let g = at-start .good in
     omega arith
 
@@ -49,6 +49,15 @@ put-line-requires c κs =
     let at-loop = at-loop-test .before in
     let at-start = at-loop .before .before .before in
     tabled-fits (at-start .pre) (at-loop .loop .inv) (at-loop-test .loop-test .taken)
+
+add-start : tie.Need-add-start Inv-loop μ-loop
+add-start c =
+    let at-loop-test = c .before .before .before .before .before in
+    let at-loop = at-loop-test .before in
+    let at-start = at-loop .before .before .before in
+    let r = tabled-row (at-start .pre) (at-loop .loop .inv) (at-loop-test .loop-test .taken) in
+    let g = at-start .good in
+    omega arith
 
 add-i : tie.Need-add-i Inv-loop μ-loop
 add-i c = search needs
@@ -89,6 +98,7 @@ put-table-spec =
     part-put-line-start
     part-put-line-end
     put-line-requires
+    add-start
     add-i
     loop-less
     loop-again

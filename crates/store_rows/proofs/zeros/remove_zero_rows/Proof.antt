@@ -4,7 +4,7 @@ use mathlib.Core.Path.{sym, _∙_}
 use borrow.Author.Needs.{needs}
 use borrow.Author.Tests.{not-true, not-false}
 use native.Mathlib.Omega.{arith}
-use Rattle.common.specs.Values.{triple-of}
+use Rattle.common.specs.Values.{row-of}
 use Rattle.store_rows.proofs.Removing.{Removing, removing-start, removing-skip, removing-keep, removing-end}
 use Rattle.store_rows.proofs.zeros.remove_zero_rows.Statement.{statement}
 use Rattle.store_rows.proofs.zeros.remove_zero_rows.Tie as tie
@@ -18,8 +18,8 @@ abbrev μ-loop : tie.MeasureT-loop
 loop-holds : tie.Need-loop-holds Inv-loop μ-loop
 loop-holds c = removing-start (c .before .args .store .now) (c .before .args .n)
 
-row-requires : tie.Need-row-requires Inv-loop μ-loop
-row-requires c κs = omega (arith, c .before .before .loop .inv .same-length)
+whole-row-requires : tie.Need-whole-row-requires Inv-loop μ-loop
+whole-row-requires c κs = omega (arith, c .before .before .loop .inv .same-length)
 
 add-i : tie.Need-add-i Inv-loop μ-loop
 add-i c = search needs
@@ -32,11 +32,11 @@ loop-less c = search needs
 
 loop-again : tie.Need-loop-again Inv-loop μ-loop
 loop-again c =
-    let after-row = c .before .before in
-    let at-loop-test = after-row .before .before in
+    let after-whole-row = c .before .before in
+    let at-loop-test = after-whole-row .before .before in
     let at-loop = at-loop-test .before in
-    removing-skip (at-loop .loop .inv) (at-loop-test .loop-test .taken) (triple-of (after-row .row .result))
-    (after-row .row .ensures) (sym (c .before .no-zero .ensures) ∙ not-true _ (c .if1 .taken))
+    removing-skip (at-loop .loop .inv) (at-loop-test .loop-test .taken) (row-of (after-whole-row .whole-row .result))
+    (after-whole-row .whole-row .ensures) (sym (c .before .no-zero .ensures) ∙ not-true _ (c .if1 .taken))
 
 put-row-requires : tie.Need-put-row-requires Inv-loop μ-loop
 put-row-requires c κs =
@@ -54,12 +54,12 @@ loop-again-2 c =
     let after-put-row = c .before .before in
     let at-if1 = after-put-row .before .before in
     let after-no-zero = at-if1 .before in
-    let after-row = after-no-zero .before in
-    let at-loop-test = after-row .before .before in
+    let after-whole-row = after-no-zero .before in
+    let at-loop-test = after-whole-row .before .before in
     let at-loop = at-loop-test .before in
     let at-start = at-loop .before .before in
-    removing-keep (at-loop .loop .inv) (at-loop-test .loop-test .taken) (triple-of (after-row .row .result))
-    (after-row .row .ensures) (at-start .pre) (sym (after-no-zero .no-zero .ensures) ∙ not-false _ (at-if1 .if1 .left))
+    removing-keep (at-loop .loop .inv) (at-loop-test .loop-test .taken) (row-of (after-whole-row .whole-row .result))
+    (after-whole-row .whole-row .ensures) (at-start .pre) (sym (after-no-zero .no-zero .ensures) ∙ not-false _ (at-if1 .if1 .left))
     (after-put-row .put-row .ensures)
 
 same-length : tie.Need-same-length Inv-loop μ-loop
@@ -75,7 +75,7 @@ remove-zero-rows-spec =
     Inv-loop
     μ-loop
     loop-holds
-    row-requires
+    whole-row-requires
     add-i
     no-zero-requires
     loop-less
