@@ -152,7 +152,8 @@ module _ {A : Type 0} (key : A → List ℕ) where
       → In z (insert-all key xs us)
   unfolding insert-all
   in-insert-all-told [] us f h = absurd (in-nil h)
-  in-insert-all-told (x ∷ xs) us f {z} h = go (in-cons h) (λ i. in-insert-all-told xs (insert key x us) (λ a b i j. f a b (there i) (with j)) i)
+  in-insert-all-told (x ∷ xs) us f {z} h =
+      go (in-cons h) (λ i. in-insert-all-told xs (insert key x us) (λ a b i j. f a b (there i) (with j)) i)
     where
       step : {b : A} → (b ≡ x) ⊎ In b us → In b (x ∷ xs) ⊎ In b us
       step (inl e) = inl (here e)

@@ -6,8 +6,8 @@ use mathlib.Core.List.{List, [], _∷_, _++_}
 use Prim.Native.Nat.{ℕ, suc, _≤_, Ordering, Ordering·lt, Ordering·eq, Ordering·gt}
 use native.Mathlib.Omega.{arith}
 use lib.ListN.{length}
-use Rattle.common.specs.Triples.{Triple, Row, In, here, there, if, lex, key-triple, key-row, Before, Ascending, Distinct, place, insert}
-use Rattle.common.specs.Triples.{insert-all, no-zero, without-zero, without-zero-rows, erase}
+use Rattle.common.specs.Triples.{Triple, Row, In, here, there, if, lex, key-triple, key-row, Before, Ascending, Distinct}
+use Rattle.common.specs.Triples.{place, insert, insert-all, no-zero, without-zero, without-zero-rows, erase}
 use Rattle.common.proofs.Lists.{in-nil, in-cons}
 use Rattle.common.proofs.Lex.{lex-eq}
 use Rattle.common.proofs.Order.{in-insert→, in-insert-all→, in-insert-all-old, in-insert-all-new, ascending-insert-all}
@@ -145,7 +145,8 @@ put-rows-lowest (x ∷ xs) us a {w} h = go (in-cons h) (λ i. put-rows-lowest xs
         (In z (insert key-row x us) ⊎ (z .rule ≤ w .rule)))
         → (z : Row) × In z (insert-all key-row xs (insert key-row x us)) × (z .it ≡ w .it) × (In z us ⊎ (z .rule ≤ w .rule))
     go (inl e) k =
-        let (z, i, f, j) = insert-some x us in (z, in-insert-all-old key-row xs (insert key-row x us) i, f ∙ sym (ap (λ (q : Row). q .it) e), kept e j)
+        let (z, i, f, j) = insert-some x us in
+        (z, in-insert-all-old key-row xs (insert key-row x us) i, f ∙ sym (ap (λ (q : Row). q .it) e), kept e j)
     go (inr i) k = let (z, j, f, l) = k i in (z, j, f, old-or-low i l)
 
 -- rows put into an empty list: sorted

@@ -47,8 +47,8 @@ module _ (c : Containers) (b : Lent) (cap fcap : ℕ) (X : List Triple) (R : Lis
 
   pub stored-of-accepted : stored (outcome-answer b (accepted R F n k)) ≡ R
   stored-of-accepted =
-      ap (λ m. rows-of (take (store-width * m) (filled (b .store) (flat-rows R)))) (accepted→ c cap fcap X N F n k r .count ∙ length-erase R)
-      ∙ rows-filled (b .store) R
+      ap (λ m. rows-of (take (store-width * m) (filled (b .store) (flat-rows R))))
+      (accepted→ c cap fcap X N F n k r .count ∙ length-erase R) ∙ rows-filled (b .store) R
 
   pub answer-of-accepted : answer (outcome-answer b (accepted R F n k)) ≡ N
   answer-of-accepted = ap erase stored-of-accepted

@@ -65,7 +65,8 @@ module _ {l₀ : List ℕ} {n i k : ℕ} {l : List ℕ} (v : Removing l₀ n i k
   here : r ≡ wholeRowAt l₀ i
   here = e ∙ whole-ext l l₀ i (λ x p q. v .beyond x p)
 
-  one : (b : Bool) → no-zero (r .it) ≡ b → without-zero-rows (whole-rows (i + 1) l₀) ≡ without-zero-rows (whole-rows i l₀) ++ without-one b r
+  one : (b : Bool) → no-zero (r .it) ≡ b
+      → without-zero-rows (whole-rows (i + 1) l₀) ≡ without-zero-rows (whole-rows i l₀) ++ without-one b r
   one b z =
       without-more i l₀ ∙ ap (λ u. without-zero-rows (whole-rows i l₀) ++ without-one (no-zero (u .it)) u) (sym here)
       ∙ ap (λ x. without-zero-rows (whole-rows i l₀) ++ without-one x r) z
