@@ -6,6 +6,7 @@
 //!   refusal K   number K is answered as K + 1      counter     a put counts a byte too many
 //!   list NAME   lists, nil among them, are read as model::mistakes has it by that name
 //!   row NAME    rows are numbered, or a store is measured, as model::misnumberings has it by that name
+//!   turn NAME   opening calls and passes are made as model::misturns has it by that name
 //!   reader NAME files are read as model::misreadings has it by that name
 
 use model::bytes::{self, Lent, LentToRead};
@@ -13,7 +14,9 @@ use model::closure::Mistake;
 use model::misnumberings::MISNUMBERINGS;
 use model::misreadings::{Misreading, MISREADINGS};
 use model::mistakes;
+use model::misturns::{Misturn, MISTURNS};
 use model::rows::Rows;
+use model::turns::Turn;
 use std::slice::{from_raw_parts, from_raw_parts_mut};
 use std::sync::OnceLock;
 
@@ -44,6 +47,7 @@ fn fault() -> &'static Fault {
             "counter" => Fault { counter: true, ..Fault::default() },
             "list" => by(named(name())),
             "row" => by(Mistake { rows: misnumbering(name()), ..Mistake::default() }),
+            "turn" => by(Mistake { turn: Some(misturn(name())), ..Mistake::default() }),
             "reader" => Fault { misreading: Some(misreading(name())), ..Fault::default() },
             _ => panic!("no fault {text}"),
         }
@@ -56,6 +60,10 @@ fn named(name: &str) -> Mistake {
 
 fn misnumbering(name: &str) -> Rows {
     MISNUMBERINGS.iter().find(|(n, _)| *n == name).unwrap_or_else(|| panic!("no misnumbering {name}")).1
+}
+
+fn misturn(name: &str) -> Misturn {
+    MISTURNS.iter().find(|(n, _)| *n == name).unwrap_or_else(|| panic!("no misturn {name}")).1
 }
 
 fn misreading(name: &str) -> Misreading {
@@ -162,15 +170,86 @@ pub unsafe extern "C" fn tablestork_run(
         findings: from_raw_parts_mut(findings, findings_len),
         work: from_raw_parts_mut(work, work_len),
     };
-    let before = fault().dirty.then(|| lent.store.to_vec());
+    let run = |lent: Lent, mistake: Mistake| {
+        let (refusal, triples, counts) = bytes::run_mistaken(lent, mistake);
+        (refusal, triples, 1, counts)
+    };
     let refusal;
-    (refusal, *triples, *counts) = bytes::run_mistaken(lent, fault().mistake);
-    if let (Some(before), 8..) = (before, refusal) {
-        from_raw_parts_mut(store, store_len).copy_from_slice(&before);
-    }
-    if fault().check != 0 {
-        forget_check(fault().check, from_raw_parts_mut(findings, findings_len), &mut *counts);
-    }
+    (refusal, *triples, _, *counts) = on_lent(lent, run);
+    answered(refusal)
+}
+
+/// # Safety
+/// As for `tablestork_start`.
+#[no_mangle]
+pub unsafe extern "C" fn tablestork_open(
+    table: *mut u8,
+    table_len: usize,
+    arena: *mut u8,
+    arena_len: usize,
+    terms: *mut u32,
+    used: *mut u32,
+    load: *const u8,
+    load_len: usize,
+    store: *mut u8,
+    store_len: usize,
+    findings: *mut u8,
+    findings_len: usize,
+    work: *mut u8,
+    work_len: usize,
+    triples: *mut u32,
+    done: *mut u32,
+    counts: *mut [u32; 5],
+) -> u32 {
+    let lent = Lent {
+        table: from_raw_parts_mut(table, table_len),
+        arena: from_raw_parts_mut(arena, arena_len),
+        terms: &mut *terms,
+        used: &mut *used,
+        load: from_raw_parts(load, load_len),
+        store: from_raw_parts_mut(store, store_len),
+        findings: from_raw_parts_mut(findings, findings_len),
+        work: from_raw_parts_mut(work, work_len),
+    };
+    let refusal;
+    (refusal, *triples, *done, *counts) = on_lent(lent, bytes::open_mistaken);
+    answered(refusal)
+}
+
+/// # Safety
+/// As for `tablestork_start`.
+#[no_mangle]
+pub unsafe extern "C" fn tablestork_pass(
+    table: *mut u8,
+    table_len: usize,
+    arena: *mut u8,
+    arena_len: usize,
+    terms: *mut u32,
+    used: *mut u32,
+    load: *const u8,
+    load_len: usize,
+    store: *mut u8,
+    store_len: usize,
+    findings: *mut u8,
+    findings_len: usize,
+    work: *mut u8,
+    work_len: usize,
+    triples: *mut u32,
+    done: *mut u32,
+    counts: *mut [u32; 5],
+) -> u32 {
+    let lent = Lent {
+        table: from_raw_parts_mut(table, table_len),
+        arena: from_raw_parts_mut(arena, arena_len),
+        terms: &mut *terms,
+        used: &mut *used,
+        load: from_raw_parts(load, load_len),
+        store: from_raw_parts_mut(store, store_len),
+        findings: from_raw_parts_mut(findings, findings_len),
+        work: from_raw_parts_mut(work, work_len),
+    };
+    let refusal;
+    (refusal, *triples, *done, *counts) = on_lent(lent, bytes::pass_mistaken);
     answered(refusal)
 }
 
@@ -201,6 +280,21 @@ pub unsafe extern "C" fn tablestork_read(
     let refusal;
     (refusal, *triples) = bytes::read_mistaken(lent, fault().misreading);
     answered(refusal)
+}
+
+/// A run, an opening call or a pass, with the fault.
+fn on_lent(lent: Lent, call: impl FnOnce(Lent, Mistake) -> Turn) -> Turn {
+    let Lent { table, arena, terms, used, load, store, findings, work } = lent;
+    let before = fault().dirty.then(|| store.to_vec());
+    let borrowed = Lent { table, arena, terms, used, load, store: &mut *store, findings: &mut *findings, work };
+    let (refusal, triples, done, mut counts) = call(borrowed, fault().mistake);
+    if let (Some(before), 8..) = (before, refusal) {
+        store.copy_from_slice(&before);
+    }
+    if fault().check != 0 {
+        forget_check(fault().check, findings, &mut counts);
+    }
+    (refusal, triples, done, counts)
 }
 
 /// Takes a check's records out of the findings.

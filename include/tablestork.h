@@ -1,4 +1,4 @@
-/* Tablestork, from C: start, put, lookup, run and read over buffers of bytes.
+/* Tablestork, from C: start, put, lookup, run, open, pass and read over buffers of bytes.
  *
  * The library is what `rt staticlib edge_c` makes. Each function takes every input, ends, and is proved to give what crates/edge_c/specs
  * say. Numbers in the table, the load, the store, the findings and the list work buffer are little-endian, four bytes each; a length is
@@ -7,7 +7,7 @@
  * Each function returns 0, or the number of a refusal; every other number of its result is then 0. Refusals other than 8 and 9 change no
  * buffer, but that a read which answers 3, 7, 11, 13 or 14 makes its load zero. Numbers that a function writes it writes always.
  *
- * A run needs a stack of 11 MB, a read 4 MB, the others 2 MB. */
+ * A run, an open and a pass need a stack of 11 MB each, a read 4 MB, the others 2 MB. */
 #ifndef TABLESTORK_H
 #define TABLESTORK_H
 
@@ -22,11 +22,13 @@ extern "C" {
 #define TABLESTORK_BROKEN_DICTIONARY 1 /* no sequence of puts after a start leaves these contents */
 #define TABLESTORK_RAGGED_LOAD 2       /* not whole triples */
 #define TABLESTORK_LOAD_TOO_LONG 3     /* over 16,384 triples; in a read also more than its load has room for */
-#define TABLESTORK_ILL_SIZED_STORE 4   /* a buffer of another length than the call takes; of a store, not whole rows of 20 bytes */
+#define TABLESTORK_ILL_SIZED_STORE 4   /* a buffer of another length than the call takes; of a store, not whole rows of 20 bytes. In a
+                                          pass, after 7, also a store that it does not take (see tablestork_pass) */
 #define TABLESTORK_BLANK_ID 5          /* an id 0 in the load */
 #define TABLESTORK_UNKNOWN_TERM 6      /* an id in the load that is not below the term count */
 #define TABLESTORK_DICTIONARY_FULL 7   /* entries or arena bytes do not suffice */
-#define TABLESTORK_STORE_FULL 8        /* the closure has more triples than the store; store, findings and work are zero */
+#define TABLESTORK_STORE_FULL 8        /* the closure, or what an open or a pass leaves, has more triples than the store has rows; store,
+                                          findings and work are zero */
 #define TABLESTORK_FINDINGS_FULL 9     /* more findings than records; store, findings and work are zero */
 #define TABLESTORK_UNKNOWN_KIND 10     /* a kind other than 1 to 3 */
 #define TABLESTORK_TERM_TOO_LONG 11    /* over 4,096 bytes */
@@ -59,6 +61,30 @@ uint32_t tablestork_lookup(const uint8_t *table, size_t table_len, const uint8_t
 uint32_t tablestork_run(uint8_t *table, size_t table_len, uint8_t *arena, size_t arena_len, uint32_t *terms, uint32_t *used,
                         const uint8_t *load, size_t load_len, uint8_t *store, size_t store_len, uint8_t *findings, size_t findings_len,
                         uint8_t *work, size_t work_len, uint32_t *triples, uint32_t counts[5]);
+
+/* Opens a run that is closed in turns, one pass to a call: lays the starting triples of the load in the store, as rows of pass 0 and rule
+ * 0, ascending, then zeros. Writes their number, 0 for done, which an open never is, and five zeros; findings and list work buffer are zero
+ * afterwards. Refusals 1 to 8, of which 8 is for the starting triples. The load is lent to each pass again. */
+uint32_t tablestork_open(uint8_t *table, size_t table_len, uint8_t *arena, size_t arena_len, uint32_t *terms, uint32_t *used,
+                         const uint8_t *load, size_t load_len, uint8_t *store, size_t store_len, uint8_t *findings, size_t findings_len,
+                         uint8_t *work, size_t work_len, uint32_t *triples, uint32_t *done, uint32_t counts[5]);
+
+/* One pass: adds to the store all that the rules give from the triples in it, with the lists of the load. New rows have the largest pass of
+ * the store and 1, and the lowest rule that gives them; the others stay as they are.
+ *
+ * Where it adds some, it writes the number of rows, triples with an id 0 counted, 0 for done and five zeros, and findings and list work
+ * buffer are zero. The first pass that adds none ends the run: it writes the findings, takes the triples with an id 0 out of the store, and
+ * writes 1 for done and the counts of a run. That comes within as many passes as the closure has triples more than the start, and one. The
+ * end is that of a run of the load in a store and findings of the same lengths, all five numbers of each row and refusals 8 and 9.
+ *
+ * Refusals 1 to 7 as in a run; then 4 for a store whose rows, those up to the last that is not five zeros, are not strictly ascending
+ * triples of known ids, a run's three terms counted as known, with all starting triples of the load among them and no pass over 65,535;
+ * then 8 for the triples of this pass; then 9. Refusal 4 leaves everything as it was, here too. The list work buffer is measured by the
+ * terms held now, and three more: an open may put three terms, so one that just suffices for it can be 24 bytes too short for the
+ * passes. */
+uint32_t tablestork_pass(uint8_t *table, size_t table_len, uint8_t *arena, size_t arena_len, uint32_t *terms, uint32_t *used,
+                         const uint8_t *load, size_t load_len, uint8_t *store, size_t store_len, uint8_t *findings, size_t findings_len,
+                         uint8_t *work, size_t work_len, uint32_t *triples, uint32_t *done, uint32_t counts[5]);
 
 /* Reads a file of RDF 1.1 N-Triples: puts its terms, and writes its triples in order to the load, three numbers a triple, then zeros, and
  * their count. A file is refused at its first failing line, the dictionary as before and the load all zero. Refusals 1, 2, and then, line

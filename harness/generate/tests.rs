@@ -10,8 +10,9 @@ use model::misnumberings::MISNUMBERINGS;
 use model::mistakes::{self, OF_NIL, READINGS};
 use model::ntriples::{line, lines, Line};
 use model::reading::Reading;
-use model::rounds::rounds;
-use model::rows::{self, triples};
+use model::rounds::{pass_of_a_store, rounds};
+use model::rows::{self, triples, Record};
+use model::turns::{opening_rows, pass_rows};
 use model::{Triple, ARENA_LIMIT, ENTRIES_LIMIT, LINE_LIMIT, LOAD_LIMIT, STORE_LIMIT, TERM_LIMIT};
 
 const MODELS: u64 = 1_500;
@@ -134,6 +135,63 @@ fn passes_and_rules_are_those_of_rounds() {
     // In the pass in which eq-trans (8) gives a triple eq-rep-o does.
     assert!(compared > MODELS / 2 && passes[3..].iter().all(|n| *n >= 50), "{passes:?}");
     assert!((0..29).all(|k| if k == 8 { rules[k] == 0 } else { rules[k] >= 5 }), "{rules:?}");
+}
+
+/// Passes from an opening call on: after n of them the rows are those of the closure whose pass is at most n, until all of it is there.
+#[test]
+fn passes_one_by_one_are_those_of_the_closure() {
+    let mut compared = 0;
+    for k in 0..MODELS {
+        let start = small(&mut Random::item(11, k)).start();
+        let Some(closure) = close_rows(&start, IN_ROUNDS) else { continue };
+        let mut rows = opening_rows(&start);
+        for pass in 0.. {
+            assert_eq!(rows, closure.iter().copied().filter(|row| row.pass <= pass).collect::<Vec<_>>(), "{start:?}");
+            let next = pass_rows(&rows, &start, closure.len()).expect("no more than the closure");
+            if next.len() == rows.len() {
+                break;
+            }
+            rows = next;
+        }
+        assert_eq!(rows, closure);
+        compared += 1;
+    }
+    assert!(compared > MODELS / 2);
+}
+
+/// A pass over rows that no call left: some of a closure's, others that do not follow, with any passes and rules. It is the pass that goes
+/// through all rules and the whole set.
+#[test]
+fn passes_over_any_rows_are_those_of_rounds() {
+    let (mut added, mut closed, mut zero) = (0, 0, 0);
+    for k in 0..MODELS {
+        let mut r = Random::item(12, k);
+        let model = small(&mut r);
+        let Some(mut rows) = close_rows(&model.start(), IN_ROUNDS / 2) else { continue };
+        if r.percent(80) {
+            rows.retain(|row| row.pass == 0 || r.percent(70));
+        }
+        let most = FIRST as usize + model.terms.len();
+        for _ in 0..r.below(4) {
+            let triple = [0; 3].map(|_| r.below(most) as u32);
+            if !rows.iter().any(|row| row.triple == triple) {
+                rows.push(Record { triple, pass: 0, rule: 0 });
+            }
+        }
+        for row in &mut rows {
+            if r.percent(20) {
+                (row.pass, row.rule) = (r.below(9) as u32, r.below(40) as u32);
+            }
+        }
+        // Lists come from the load lent now, which may be another.
+        let lists = if r.percent(70) { model.start() } else { small(&mut r).start() };
+        let next = pass_rows(&rows, &lists, STORE_LIMIT).expect("a small store");
+        assert_eq!(next, pass_of_a_store(&rows, &lists), "{rows:?}");
+        *(if next.len() > rows.len() { &mut added } else { &mut closed }) += 1;
+        zero += u32::from(rows.iter().any(|row| row.triple.contains(&0)));
+    }
+    println!("passes that add: {added}, that do not: {closed}, with zero triples before: {zero}");
+    assert!(added >= 500 && closed >= 50 && zero >= 300, "{added}, {closed}, {zero}");
 }
 
 /// What is wrong in a row comes up: each wrong numbering gives another answer, or none that fits the store. Wrong lengths of a store are

@@ -1,9 +1,10 @@
-//! The C entry points, docs/REFERENCE.md, 9: the five calls over byte slices, ids little-endian. A byte length that is no multiple of
+//! The C entry points, docs/REFERENCE.md, 9: the seven calls over byte slices, ids little-endian. A byte length that is no multiple of
 //! 4 is 2 for a load, 1 for a table after the start, else 4, each at its place in the order.
 
 use crate::calls::{self, Buffers, Dictionary};
 use crate::closure::Mistake;
 use crate::misreadings::Misreading;
+use crate::turns::{self, Turn};
 use crate::*;
 
 fn numbers(bytes: &[u8]) -> Vec<u32> {
@@ -85,7 +86,7 @@ pub fn read_mistaken(lent: LentToRead, mistake: Option<Misreading>) -> (u32, u32
     result
 }
 
-/// What a run is lent, as bytes.
+/// What a run, an opening call or a pass is lent, as bytes.
 pub struct Lent<'a> {
     pub table: &'a mut [u8],
     pub arena: &'a mut [u8],
@@ -104,8 +105,33 @@ pub fn run(lent: Lent) -> (u32, u32, [u32; 5]) {
 
 /// The same with a mistake.
 pub fn run_mistaken(lent: Lent, mistake: Mistake) -> (u32, u32, [u32; 5]) {
+    on_numbers(lent, |d, load, b| calls::run_mistaken(d, load, b, mistake)).unwrap_or((BROKEN_DICTIONARY, 0, [0; 5]))
+}
+
+/// Refusal, triple count, whether the run is done, and the count of each check.
+pub fn open(lent: Lent) -> Turn {
+    open_mistaken(lent, Mistake::default())
+}
+
+/// The same with a mistake.
+pub fn open_mistaken(lent: Lent, mistake: Mistake) -> Turn {
+    on_numbers(lent, |d, load, b| turns::open_mistaken(d, load, b, mistake)).unwrap_or(turns::refused(BROKEN_DICTIONARY))
+}
+
+/// As for `open`.
+pub fn pass(lent: Lent) -> Turn {
+    pass_mistaken(lent, Mistake::default())
+}
+
+/// The same with a mistake.
+pub fn pass_mistaken(lent: Lent, mistake: Mistake) -> Turn {
+    on_numbers(lent, |d, load, b| turns::pass_mistaken(d, load, b, mistake)).unwrap_or(turns::refused(BROKEN_DICTIONARY))
+}
+
+/// A call on the numbers of the lent bytes, which are then written back; none for a table that is not whole numbers.
+fn on_numbers<R>(lent: Lent, call: impl FnOnce(Dictionary, &[u32], Buffers) -> R) -> Option<R> {
     if lent.table.len() % 4 != 0 {
-        return (BROKEN_DICTIONARY, 0, [0; 5]);
+        return None;
     }
     let mut table = numbers(lent.table);
     let mut store = numbers(lent.store);
@@ -121,10 +147,10 @@ pub fn run_mistaken(lent: Lent, mistake: Mistake) -> (u32, u32, [u32; 5]) {
     }
     let d = Dictionary { table: &mut table, arena: lent.arena, terms: lent.terms, used: lent.used };
     let b = Buffers { store: &mut store, findings: &mut findings, work: &mut work };
-    let result = calls::run_mistaken(d, &load, b, mistake);
+    let result = call(d, &load, b);
     write(lent.table, &table);
     write(lent.store, &store);
     write(lent.findings, &findings);
     write(lent.work, &work);
-    result
+    Some(result)
 }

@@ -1,11 +1,13 @@
-//! The five calls on numbers, docs/REFERENCE.md, 3: result, refusals in their order, and every buffer after the call.
+//! The calls on numbers, docs/REFERENCE.md, 3: result, refusals in their order, and every buffer after the call. Those that close in turns
+//! are in turns.rs.
 
 use crate::closure::{check, close_mistaken, Mistake};
 use crate::dictionary::{self as dict, Term};
 use crate::misreadings::Misreading;
 use crate::reading::Reading;
-use crate::rows::{answer, triples};
+use crate::rows::{answer, triples, Record};
 use crate::*;
+use std::collections::BTreeSet;
 
 /// A table, an arena and the two counters of `put`.
 pub struct Dictionary<'a> {
@@ -16,12 +18,12 @@ pub struct Dictionary<'a> {
 }
 
 impl Dictionary<'_> {
-    fn held(&self) -> Option<Vec<Term>> {
+    pub(crate) fn held(&self) -> Option<Vec<Term>> {
         dict::held(self.table, self.arena, *self.terms, *self.used)
     }
 
     /// Lays these terms out.
-    fn write(&mut self, terms: &[Term]) {
+    pub(crate) fn write(&mut self, terms: &[Term]) {
         let (numbers, bytes) = dict::layout(terms, self.table.len(), self.arena.len());
         self.table.copy_from_slice(&numbers);
         self.arena.copy_from_slice(&bytes);
@@ -29,7 +31,7 @@ impl Dictionary<'_> {
         *self.used = dict::bytes_of(terms) as u32;
     }
 
-    fn fits(&self, terms: &[Term]) -> bool {
+    pub(crate) fn fits(&self, terms: &[Term]) -> bool {
         dict::fits(terms, self.table.len(), self.arena.len())
     }
 }
@@ -115,11 +117,40 @@ pub fn read_mistaken(mut d: Dictionary, file: &[u8], load: &mut [u32], mistake: 
     (0, count)
 }
 
-/// The buffers that a run is lent beside the dictionary.
+/// The buffers that a run, an opening call or a pass is lent beside the dictionary.
 pub struct Buffers<'a> {
     pub store: &'a mut [u32],
     pub findings: &'a mut [u32],
     pub work: &'a mut [u32],
+}
+
+impl Buffers<'_> {
+    pub(crate) fn lengths(&self) -> [usize; 3] {
+        [self.store.len(), self.findings.len(), self.work.len()]
+    }
+
+    pub(crate) fn clear(&mut self) {
+        self.store.fill(0);
+        self.findings.fill(0);
+        self.work.fill(0);
+    }
+
+    /// Rows in a store of zeros.
+    pub(crate) fn lay(&mut self, rows: &[Record]) {
+        for (place, row) in self.store.chunks_exact_mut(STORE_WIDTH).zip(rows) {
+            place.copy_from_slice(&row.numbers());
+        }
+    }
+
+    /// Findings in a buffer of zeros, as far as they have room, and the count of each check.
+    pub(crate) fn lay_findings<'f>(&mut self, found: impl IntoIterator<Item = &'f Finding>) -> [u32; 5] {
+        let mut counts = [0; 5];
+        for (place, finding) in self.findings.chunks_exact_mut(FINDING_WIDTH).zip(found) {
+            place.copy_from_slice(finding);
+            counts[finding[0] as usize - 1] += 1;
+        }
+        counts
+    }
 }
 
 /// Refusal, triple count, and the count of each check.
@@ -128,50 +159,53 @@ pub fn run(d: Dictionary, load: &[u32], b: Buffers) -> (u32, u32, [u32; 5]) {
 }
 
 /// The same with a mistake.
-pub fn run_mistaken(mut d: Dictionary, load: &[u32], b: Buffers, mistake: Mistake) -> (u32, u32, [u32; 5]) {
-    let (terms, rows) = match before_closing(&d, load, &b, &mistake) {
+pub fn run_mistaken(mut d: Dictionary, load: &[u32], mut b: Buffers, mistake: Mistake) -> (u32, u32, [u32; 5]) {
+    let (terms, rows) = match before_closing(&d, load, b.lengths(), &mistake) {
         Ok(passed) => passed,
         Err(refusal) => return (refusal, 0, [0; 5]),
     };
     d.write(&terms);
-    b.store.fill(0);
-    b.findings.fill(0);
-    b.work.fill(0);
-    let load: Vec<Triple> = load.chunks(LOAD_WIDTH).map(|t| [t[0], t[1], t[2]]).collect();
-    let Some(closure) = close_mistaken(&starting_triples(&terms, &load), rows, mistake) else {
-        return (STORE_FULL, 0, [0; 5]);
-    };
-    let found = check(&triples(&closure));
+    b.clear();
+    match close_mistaken(&starting_triples(&terms, &triples_of(load)), rows, mistake) {
+        Some(closure) => end(&answer(&closure), &check(&triples(&closure)), b),
+        None => (STORE_FULL, 0, [0; 5]),
+    }
+}
+
+/// The end of a run in buffers of zeros: refusal 9, or the answer and the findings.
+pub(crate) fn end(answer: &[Record], found: &BTreeSet<Finding>, mut b: Buffers) -> (u32, u32, [u32; 5]) {
     if found.len() > b.findings.len() / FINDING_WIDTH {
         return (FINDINGS_FULL, 0, [0; 5]);
     }
-    let answer = answer(&closure);
-    let mut counts = [0; 5];
-    for (row, record) in b.store.chunks_exact_mut(STORE_WIDTH).zip(&answer) {
-        row.copy_from_slice(&record.numbers());
-    }
-    for (row, finding) in b.findings.chunks_mut(FINDING_WIDTH).zip(&found) {
-        row.copy_from_slice(finding);
-        counts[finding[0] as usize - 1] += 1;
-    }
-    (0, answer.len() as u32, counts)
+    b.lay(answer);
+    (0, answer.len() as u32, b.lay_findings(found))
 }
 
-/// Refusals 1 to 7 of a run, in that order; else the terms with the three that it puts, and the store's number of rows.
-fn before_closing(d: &Dictionary, load: &[u32], b: &Buffers, mistake: &Mistake) -> Result<(Vec<Term>, usize), u32> {
+pub(crate) fn triples_of(load: &[u32]) -> Vec<Triple> {
+    load.chunks(LOAD_WIDTH).map(|t| [t[0], t[1], t[2]]).collect()
+}
+
+/// Refusals 1 to 7 of a run with buffers of these lengths, in that order; else the terms with the three that it puts, and the store's
+/// number of rows.
+pub(crate) fn before_closing(
+    d: &Dictionary,
+    load: &[u32],
+    [store, findings, work]: [usize; 3],
+    mistake: &Mistake,
+) -> Result<(Vec<Term>, usize), u32> {
     let Some(mut terms) = d.held() else {
         return Err(BROKEN_DICTIONARY);
     };
-    let (known, findings) = (terms.len(), b.findings.len());
+    let known = terms.len();
     if load.len() % LOAD_WIDTH != 0 {
         return Err(RAGGED_LOAD);
     }
     if load.len() / LOAD_WIDTH > LOAD_LIMIT {
         return Err(LOAD_TOO_LONG);
     }
-    let rows = (mistake.rows.sized)(b.store.len()).ok_or(ILL_SIZED_STORE)?;
+    let rows = (mistake.rows.sized)(store).ok_or(ILL_SIZED_STORE)?;
     let findings_sized = findings % FINDING_WIDTH == 0 && findings / FINDING_WIDTH <= FINDINGS_LIMIT;
-    if !findings_sized || b.work.len() < 2 * (known + 3) {
+    if !findings_sized || work < 2 * (known + 3) {
         return Err(ILL_SIZED_STORE);
     }
     if load.contains(&0) {
@@ -180,15 +214,20 @@ fn before_closing(d: &Dictionary, load: &[u32], b: &Buffers, mistake: &Mistake) 
     if load.iter().any(|id| *id as usize >= known) {
         return Err(UNKNOWN_TERM);
     }
-    for term in dict::run_terms() {
-        if !terms.contains(&term) {
-            terms.push(term);
-        }
-    }
+    put_run_terms(&mut terms);
     if d.fits(&terms) {
         Ok((terms, rows))
     } else {
         Err(DICTIONARY_FULL)
+    }
+}
+
+/// The three terms of a run behind those held; one that is held stays where it is.
+pub(crate) fn put_run_terms(terms: &mut Vec<Term>) {
+    for term in dict::run_terms() {
+        if !terms.contains(&term) {
+            terms.push(term);
+        }
     }
 }
 

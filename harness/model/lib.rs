@@ -1,5 +1,5 @@
 //! The reference model: an independent model of what docs/REFERENCE.md says, written for comparison, and not from the port: the
-//! dictionary, the closure, N-Triples and the five calls, each call's result and every buffer after it. It is plain rather than
+//! dictionary, the closure, N-Triples and the seven calls, each call's result and every buffer after it. It is plain rather than
 //! fast, and shares nothing with the port.
 
 pub mod bytes;
@@ -10,16 +10,20 @@ pub mod lists;
 pub mod misnumberings;
 pub mod misreadings;
 pub mod mistakes;
+pub mod misturns;
 pub mod names;
 pub mod ntriples;
 pub mod reading;
 pub mod rounds;
 pub mod rows;
+pub mod turns;
 
 #[cfg(test)]
 mod read_tests;
 #[cfg(test)]
 mod tests;
+#[cfg(test)]
+mod turn_tests;
 
 /// Subject, predicate, object.
 pub type Triple = [u32; 3];

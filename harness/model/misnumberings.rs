@@ -40,7 +40,7 @@ pub const MISNUMBERINGS: &[(&str, Rows)] = &[
     ("a-row-less", Rows { sized: |n| (RIGHT.sized)(n).map(|rows| rows.saturating_sub(1)), ..RIGHT }),
 ];
 
-fn lowest_of_all_passes(row: &Record, given: &Record) -> Option<Record> {
+pub(crate) fn lowest_of_all_passes(row: &Record, given: &Record) -> Option<Record> {
     (row.pass > 0 && given.rule < row.rule).then_some(Record { rule: given.rule, ..*row })
 }
 

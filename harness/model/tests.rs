@@ -26,7 +26,7 @@ impl Owned {
     }
 
     /// With named nodes urn:t1 to urn:tN put.
-    fn with_terms(n: u32) -> Owned {
+    pub fn with_terms(n: u32) -> Owned {
         let (_, mut d) = Owned::start(64, 4096);
         for k in 1..=n {
             assert_eq!(calls::put(d.lend(), 1, format!("urn:t{k}").as_bytes()), (0, 30 + k));

@@ -3,7 +3,8 @@
 //!
 //! Compared are the triples, the findings as a set after each record is put into the original's message text, the counts, the
 //! number of terms, and the sizes at which store and findings just suffice. The original has no passes: the pass and the rule of each row
-//! are compared with the reference model's, whose triples have to be the measure's. Exit status 1 where there is a difference.
+//! are compared with the reference model's, whose triples have to be the measure's. Each model is closed in turns too: the rows after each
+//! pass are those of the model's closure up to that pass, and the end is the run's. Exit status 1 where there is a difference.
 //! ONLY=small or ONLY=large in the environment leaves the others out.
 
 mod support;
@@ -17,7 +18,7 @@ use std::collections::BTreeSet;
 use std::panic::{catch_unwind, AssertUnwindSafe};
 use std::sync::Mutex;
 use std::time::{Duration, Instant};
-use tablestork::{Closed, Dictionary, Refusal};
+use tablestork::{Closed, Dictionary, Refusal, Turns};
 
 /// What decides: the original inside the domain, the reference model outside.
 #[derive(Clone, Copy, PartialEq)]
@@ -101,8 +102,7 @@ fn compare(name: &str, n: u64, model: impl Fn(u64) -> Model + Sync, make: Make) 
 fn judge(model: &Model, make: Make) -> (Measure, Verdict) {
     let (by, reference, closure) = measured(model);
     let refused = reference.closure > STORE_LIMIT || reference.messages.len() > FINDINGS_LIMIT;
-    let rows = || closure.as_ref().map(|closure| answer(closure));
-    let verdict = match catch_unwind(AssertUnwindSafe(|| same(model, by, &reference, rows(), make))) {
+    let verdict = match catch_unwind(AssertUnwindSafe(|| same(model, by, &reference, closure.as_deref(), make))) {
         Ok(Ok(())) => Verdict::Same { refused },
         Ok(Err(how)) => Verdict::Differs { how },
         Err(_) => Verdict::Differs { how: "a panic".to_string() },
@@ -144,7 +144,7 @@ fn by_the_model(model: &Model, closure: Option<&[Record]>) -> Reference {
     }
 }
 
-fn same(model: &Model, by: Measure, reference: &Reference, rows: Option<Vec<Record>>, make: Make) -> Result<(), String> {
+fn same(model: &Model, by: Measure, reference: &Reference, closure: Option<&[Record]>, make: Make) -> Result<(), String> {
     let before = make(model)?;
     let (store, findings) = (reference.closure, reference.messages.len());
     let run = |triples: usize, records: usize| {
@@ -165,13 +165,64 @@ fn same(model: &Model, by: Measure, reference: &Reference, rows: Option<Vec<Reco
     let (result, terms) = run(store, findings);
     let closed = result.map_err(|r| format!("a store of {store} and findings of {findings} suffice, refused: {r:?}"))?;
     same_answer(&closed, by, reference)?;
-    same_rows(&closed, &rows.ok_or("the reference model's closure is above a store")?)?;
+    let closure = closure.ok_or("the reference model's closure is above a store")?;
+    same_rows(&closed.records, &answer(closure))?;
     if reference.original.get(terms).is_some() || reference.original.get(terms - 1).is_none() {
         return Err(format!("{terms} terms after the run, not as many as in {}", by.name()));
     }
     refused_with(Refusal::StoreFull, store - 1, findings)?;
     if findings > 0 {
         refused_with(Refusal::FindingsFull, store, findings - 1)?;
+    }
+    same_in_turns(&before, &model.load, closure, &closed, terms)
+}
+
+/// Models with at most so large a closure are closed in turns with buffers that are too small, too.
+const REFUSED_IN_TURNS: usize = 2_000;
+
+/// The run in turns, in a store and findings that just suffice, and in ones of one less.
+fn same_in_turns(before: &Dictionary, load: &[Triple], closure: &[Record], closed: &Closed, terms: u32) -> Result<(), String> {
+    let (store, findings) = (closure.len(), closed.findings.len());
+    let in_turns = |rows: usize, records: usize, end: Result<&Closed, Refusal>| {
+        let mut d = before.clone();
+        same_turns(d.turns(load, rows, records), closure, end)?;
+        (d.terms() == terms).then_some(()).ok_or(format!("{} terms after the run in turns, {terms} after the run", d.terms()))
+    };
+    in_turns(store, findings, Ok(closed))?;
+    if store <= REFUSED_IN_TURNS {
+        in_turns(store - 1, findings, Err(Refusal::StoreFull))?;
+    }
+    if store <= REFUSED_IN_TURNS && findings > 0 {
+        in_turns(store, findings - 1, Err(Refusal::FindingsFull))?;
+    }
+    Ok(())
+}
+
+/// A run in turns: until it is done the store has the closure's rows of the passes so far, and the counts are 0. It is done with the pass
+/// after the closure's last, or refused with that or, by 8, with the last that adds, and its end is the run's.
+fn same_turns(opened: Result<Turns, Refusal>, closure: &[Record], end: Result<&Closed, Refusal>) -> Result<(), String> {
+    let mut turns = match (opened, end) {
+        (Ok(turns), _) => turns,
+        (Err(refusal), Err(due)) if refusal == due => return Ok(()),
+        (Err(refusal), _) => return Err(format!("an opening call is refused: {refusal:?}")),
+    };
+    let last = closure.iter().map(|row| row.pass).max().unwrap_or(0);
+    let mut pass = 0;
+    while let Some(step) = turns.told().ok().filter(|step| !step.done) {
+        let so_far: Vec<Record> = closure.iter().copied().filter(|row| row.pass <= pass).collect();
+        same_rows(&turns.records(), &so_far).map_err(|how| format!("in turns, after {pass} passes: {how}"))?;
+        if step.counts != [0; 5] || pass > last {
+            return Err(format!("in turns, after {pass} passes of {last} that add: {step:?}"));
+        }
+        turns.next();
+        pass += 1;
+    }
+    let due = if end == Err(Refusal::StoreFull) { last } else { last + 1 };
+    if pass != due {
+        return Err(format!("a run in turns ends with pass {pass}, not {due}: {:?}", turns.told()));
+    }
+    if turns.closed().as_ref() != end.ok() || turns.told().err() != end.err() {
+        return Err(format!("a run in turns ends otherwise than a run, {:?}: {:?}", end.err(), turns.told()));
     }
     Ok(())
 }
@@ -207,8 +258,8 @@ fn same_answer(closed: &Closed, by: Measure, reference: &Reference) -> Result<()
 }
 
 /// All five numbers of each row.
-fn same_rows(closed: &Closed, rows: &[Record]) -> Result<(), String> {
-    let port: Vec<[u32; 5]> = closed.records.iter().map(|record| record.numbers()).collect();
+fn same_rows(records: &[tablestork::Record], rows: &[Record]) -> Result<(), String> {
+    let port: Vec<[u32; 5]> = records.iter().map(|record| record.numbers()).collect();
     let model: Vec<[u32; 5]> = rows.iter().map(Record::numbers).collect();
     if port != model {
         let text = |list: &[[u32; 5]]| list.iter().map(|[s, p, o, n, k]| format!("{s} {p} {o}, pass {n}, rule {k}")).collect();

@@ -2,6 +2,7 @@
 //! place, and prints what that program has to print. A line of another shape, or a cell or length out of range, ends it with status 1.
 
 use model::calls::{lookup, put, read, run, start, Buffers, Dictionary};
+use model::turns::{open, pass};
 
 const SIZE: usize = 70_112;
 /// The cells before the load.
@@ -84,11 +85,11 @@ impl Program {
 
     fn call(&mut self, call: u32, differ: bool) -> Option<()> {
         match call {
-            0..=4 => perform(call, &mut self.memory)?,
-            5 => {}
+            0..=6 => perform(call, &mut self.memory)?,
+            7 => {}
             _ => return None,
         }
-        self.calls += u32::from(call < 5);
+        self.calls += u32::from(call < 7);
         self.differences += u32::from((self.memory != self.expected) != differ);
         Some(())
     }
@@ -118,7 +119,13 @@ fn perform(call: u32, m: &mut [u32]) -> Option<()> {
             (m[11], m[15]) = (number, count);
             m[16..21].copy_from_slice(&counts);
         }
-        _ => (m[11], m[15]) = read(d, &term, load),
+        4 => (m[11], m[15]) = read(d, &term, load),
+        _ => {
+            let b = Buffers { store, findings, work };
+            let (number, count, done, counts) = if call == 5 { open(d, load, b) } else { pass(d, load, b) };
+            (m[11], m[15], m[21]) = (number, count, done);
+            m[16..21].copy_from_slice(&counts);
+        }
     }
     (m[9], m[10]) = (terms, used);
     lent[1] = arena.iter().map(|b| u32::from(*b)).collect();

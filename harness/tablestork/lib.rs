@@ -1,11 +1,17 @@
-//! The port as a safe Rust crate: an owned dictionary, reads that hand back owned triples, and runs that hand back owned rows.
+//! The port as a safe Rust crate: an owned dictionary, reads that hand back owned triples, and runs that hand back owned rows, all at once
+//! or in turns.
 //!
 //! A call of the port needs some megabytes of stack for its tables; `with_stack` gives a thread enough.
 
 pub mod port;
+mod turns;
 
 #[cfg(test)]
 mod tests;
+#[cfg(test)]
+mod turn_tests;
+
+pub use turns::{Step, Turns};
 
 pub type Triple = [u32; 3];
 pub type Finding = [u32; 5];
@@ -171,7 +177,28 @@ impl Dictionary {
 
     /// The same in buffers that the caller made, for a time of the run alone: the triple count, and the count of each check.
     pub fn run_in(&mut self, b: &mut Buffers) -> Result<(u32, [u32; 5]), Refusal> {
-        let (refusal, count, counts) = port::run(port::Lent {
+        let (refusal, count, counts) = port::run(self.lend(b));
+        Refusal::check(refusal).map(|()| (count, counts))
+    }
+
+    /// Opens a run of a load, to be closed one pass at a time, in a store of this many rows, with room for this many findings.
+    pub fn turns(&mut self, load: &[Triple], rows: usize, findings: usize) -> Result<Turns<'_>, Refusal> {
+        Turns::open(self, load, rows, findings)
+    }
+
+    /// Lays the starting triples of a load in the store: what an opening call does.
+    pub fn open_in(&mut self, b: &mut Buffers) -> Result<Step, Refusal> {
+        Step::of(port::open(self.lend(b)))
+    }
+
+    /// One pass over the store that an opening call or a pass left, lent its load again. The list work buffer is measured by the terms held
+    /// now: one that just sufficed for the opening call is three terms too short, where that call put a run's three terms.
+    pub fn pass_in(&mut self, b: &mut Buffers) -> Result<Step, Refusal> {
+        Step::of(port::pass(self.lend(b)))
+    }
+
+    fn lend<'a>(&'a mut self, b: &'a mut Buffers) -> port::Lent<'a> {
+        port::Lent {
             table: &mut self.table,
             arena: &mut self.arena,
             terms: &mut self.terms,
@@ -180,8 +207,7 @@ impl Dictionary {
             store: &mut b.store,
             findings: &mut b.findings,
             work: &mut b.work,
-        });
-        Refusal::check(refusal).map(|()| (count, counts))
+        }
     }
 
     /// Reads a file of N-Triples with a load for this many triples: its triples in order.
@@ -219,7 +245,8 @@ impl Load {
     }
 }
 
-/// What a run is lent beside the dictionary, cleared.
+/// What a run, an opening call or a pass is lent beside the dictionary, cleared.
+#[derive(Clone, Debug, PartialEq, Eq)]
 pub struct Buffers {
     load: Vec<u8>,
     store: Vec<u8>,
@@ -247,8 +274,23 @@ impl Buffers {
     /// What an accepted run left.
     pub fn closed(&self, count: u32, counts: [u32; 5]) -> Closed {
         let found = counts.iter().sum::<u32>() as usize;
-        let records = rows(&self.store, count as usize).into_iter().map(Record::of).collect();
-        Closed { records, findings: rows(&self.findings, found), counts }
+        Closed { records: self.records(count), findings: rows(&self.findings, found), counts }
+    }
+
+    /// The rows of the store, of which there are so many.
+    pub fn records(&self, count: u32) -> Vec<Record> {
+        rows(&self.store, count as usize).into_iter().map(Record::of).collect()
+    }
+
+    /// Another load, for the passes to come.
+    pub fn lend_load(&mut self, load: &[Triple]) {
+        self.load = to_bytes(load.as_flattened());
+    }
+
+    /// Another store, for the passes to come: rows, then zeros up to so many.
+    pub fn lend_store(&mut self, records: &[Record], rows: usize) {
+        self.store = to_bytes(&records.iter().flat_map(Record::numbers).collect::<Vec<_>>());
+        self.store.resize(RECORD_BYTES * rows.max(records.len()), 0);
     }
 }
 

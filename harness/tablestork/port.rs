@@ -57,6 +57,44 @@ extern "C" {
         triples: *mut u32,
         counts: *mut [u32; 5],
     ) -> u32;
+    fn tablestork_open(
+        table: *mut u8,
+        table_len: usize,
+        arena: *mut u8,
+        arena_len: usize,
+        terms: *mut u32,
+        used: *mut u32,
+        load: *const u8,
+        load_len: usize,
+        store: *mut u8,
+        store_len: usize,
+        findings: *mut u8,
+        findings_len: usize,
+        work: *mut u8,
+        work_len: usize,
+        triples: *mut u32,
+        done: *mut u32,
+        counts: *mut [u32; 5],
+    ) -> u32;
+    fn tablestork_pass(
+        table: *mut u8,
+        table_len: usize,
+        arena: *mut u8,
+        arena_len: usize,
+        terms: *mut u32,
+        used: *mut u32,
+        load: *const u8,
+        load_len: usize,
+        store: *mut u8,
+        store_len: usize,
+        findings: *mut u8,
+        findings_len: usize,
+        work: *mut u8,
+        work_len: usize,
+        triples: *mut u32,
+        done: *mut u32,
+        counts: *mut [u32; 5],
+    ) -> u32;
     fn tablestork_read(
         table: *mut u8,
         table_len: usize,
@@ -121,7 +159,7 @@ pub fn lookup(table: &[u8], arena: &[u8], terms: u32, used: u32, id: u32) -> (u3
     (refusal, kind, begin, len)
 }
 
-/// What a run is lent.
+/// What a run, an opening call or a pass is lent.
 pub struct Lent<'a> {
     pub table: &'a mut [u8],
     pub arena: &'a mut [u8],
@@ -157,6 +195,66 @@ pub fn run(lent: Lent) -> (u32, u32, [u32; 5]) {
         )
     };
     (refusal, triples, counts)
+}
+
+/// `tablestork_open` or `tablestork_pass`.
+type InTurns = unsafe extern "C" fn(
+    *mut u8,
+    usize,
+    *mut u8,
+    usize,
+    *mut u32,
+    *mut u32,
+    *const u8,
+    usize,
+    *mut u8,
+    usize,
+    *mut u8,
+    usize,
+    *mut u8,
+    usize,
+    *mut u32,
+    *mut u32,
+    *mut [u32; 5],
+) -> u32;
+
+/// Refusal, triple count, 1 where the run is done and else 0, and the count of each check.
+pub type Turn = (u32, u32, u32, [u32; 5]);
+
+/// An opening call.
+pub fn open(lent: Lent) -> Turn {
+    turn(tablestork_open, lent)
+}
+
+/// A pass.
+pub fn pass(lent: Lent) -> Turn {
+    turn(tablestork_pass, lent)
+}
+
+fn turn(call: InTurns, lent: Lent) -> Turn {
+    let (mut triples, mut done, mut counts) = (UNWRITTEN, UNWRITTEN, [UNWRITTEN; 5]);
+    let refusal = unsafe {
+        call(
+            lent.table.as_mut_ptr(),
+            lent.table.len(),
+            lent.arena.as_mut_ptr(),
+            lent.arena.len(),
+            lent.terms,
+            lent.used,
+            lent.load.as_ptr(),
+            lent.load.len(),
+            lent.store.as_mut_ptr(),
+            lent.store.len(),
+            lent.findings.as_mut_ptr(),
+            lent.findings.len(),
+            lent.work.as_mut_ptr(),
+            lent.work.len(),
+            &mut triples,
+            &mut done,
+            &mut counts,
+        )
+    };
+    (refusal, triples, done, counts)
 }
 
 /// What a read is lent.

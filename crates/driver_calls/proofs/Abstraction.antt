@@ -5,6 +5,8 @@ use Prim.Native.Nat.{ℕ, zero, suc}
 use lib.ListN.{length}
 use Rattle.driver_refusals.specs.Lent.{Lent}
 use Rattle.driver_run.specs.Run.{unchanged, run-all-put, run-passed, abstract-run, Run-result, run-laid, run-gives}
+use Rattle.driver_step.specs.Step.{kept}
+use Rattle.driver_turns.specs.Turns.{Past-7, open-past, pass-past, Turn-result, turn-laid, turn-gives}
 use Rattle.driver_refusals.specs.RunRefusals.{first-refusal, run-refusals}
 use Rattle.dictionary_layout.specs.Terms.{Term, start-terms, run-terms}
 use Rattle.dictionary_layout.specs.Layout.{Dict, layout}
@@ -14,13 +16,25 @@ use Rattle.dictionary_layout.proofs.Holding.{Holds, holds-put, put-all-holds}
 use Rattle.dictionary_layout.proofs.Reachable.{on-layout, start-holds, start-leaves}
 use Rattle.ntriples.specs.Reading.{read-answer, Read-result, read-laid, read-gives}
 use Rattle.ntriples.proofs.Growing.{read-keeps}
-use Rattle.driver_calls.specs.Calls.{Call, put, lookup, run-on, read-in, put-gave, lookup-gave, run-gave, read-gave, Left}
+use Rattle.driver_calls.specs.Calls.{Call, put, lookup, run-on, open-on, pass-on, read-in, put-gave, lookup-gave, run-gave}
+use Rattle.driver_calls.specs.Calls.{turn-gave, read-gave, Left}
 use Rattle.driver_calls.specs.Calls.{call-gives, Abstract-result, abstract-call, event, List-left, calls-give, events-of, terms-after}
 use Rattle.driver_calls.specs.Demand3.{abstract-list}
+use Rattle.driver_calls.proofs.Turns.{open-shows, pass-shows, turn-keeps}
 
 -- one call
 abbrev pub laid : ℕ → ℕ → Abstract-result → Left
 laid tl al r = record { out = r .out; contents = layout tl al (r .held) }
+
+-- an opening call or a pass
+abbrev turn-left : Turn-result → Left
+turn-left a = record { out = turn-gave (a .answer); contents = a .contents }
+
+turn-abstract : (f : Past-7) (tl al : ℕ) (ts : List Term) (b : Lent) → Holds tl al ts
+    → turn-left (turn-gives f (layout tl al ts) b) ≡ turn-left (turn-laid f b tl al ts)
+unfolding turn-gives
+turn-abstract f tl al ts b h =
+    ap turn-left (on-layout tl al ts (turn-laid f b) (λ _. record { answer = kept 1 b; contents = layout tl al ts }) h)
 
 pub call-abstract : (tl al : ℕ) (ts : List Term) (c : Call) → Holds tl al ts
     → call-gives (layout tl al ts) c ≡ laid tl al (abstract-call tl al ts c)
@@ -34,6 +48,8 @@ call-abstract tl al ts (lookup i) h =
 call-abstract tl al ts (run-on b) h =
     ap (λ (a : Run-result). record { out = run-gave (a .answer); contents = a .contents })
     (on-layout tl al ts (run-laid b) (λ _. record { answer = unchanged 1 b; contents = layout tl al ts }) h)
+call-abstract tl al ts (open-on b) h = turn-abstract open-past tl al ts b h
+call-abstract tl al ts (pass-on b) h = turn-abstract pass-past tl al ts b h
 call-abstract tl al ts (read-in l f) h =
     ap (λ (a : Read-result). record { out = read-gave (a .answer); contents = a .contents })
     (on-layout tl al ts (read-laid l f) (λ _. record { answer = read-answer 1 0 l; contents = layout tl al ts }) h)
@@ -56,6 +72,10 @@ unfolding abstract-call
 abstract-holds tl al ts (put t) h = holds-put tl al ts t h
 abstract-holds tl al ts (lookup i) h = h
 abstract-holds tl al ts (run-on b) h = run-holds tl al ts b h
+abstract-holds tl al ts (open-on b) h =
+    turn-keeps open-past open-shows tl al ts b (Holds tl al) (λ us e. put-all-holds tl al ts run-terms us h e) h
+abstract-holds tl al ts (pass-on b) h =
+    turn-keeps pass-past pass-shows tl al ts b (Holds tl al) (λ us e. put-all-holds tl al ts run-terms us h e) h
 abstract-holds tl al ts (read-in l f) h = read-keeps (Holds tl al) tl al (put-all-holds tl al) ts l f h
 
 -- THE LIST: what each call gives is as computed, and the contents are those of the terms computed

@@ -10,6 +10,7 @@ use lib.ListN.{length, getD, List·getD-append}
 use Rattle.driver_refusals.specs.Lent.{Lent}
 use Rattle.driver_load.specs.Closed.{Run-answer, store-room, findings-room, outcome-answer, containers, closed}
 use Rattle.driver_run.specs.Run.{Abstract-run-result, run-all-put, run-passed, abstract-run}
+use Rattle.driver_turns.specs.Turns.{open-past, pass-past}
 use Rattle.driver_refusals.specs.RunRefusals.{first-refusal, run-refusals}
 use Rattle.dictionary_layout.specs.Terms.{Term, no-term, property-term, membership-term, member-term, run-terms}
 use Rattle.dictionary_layout.specs.Dictionary.{place-from, id-of, All-put, full, all-put, put-all}
@@ -24,8 +25,9 @@ use Rattle.driver_run.proofs.PuttingAll.{Grown, grown-none, grown-trans, grown-
 use Rattle.dictionary_run_terms.proofs.Places.{place-stays}
 use Rattle.driver_refusals.proofs.Refusing.{all-in}
 use Rattle.ntriples.proofs.Growing.{read-keeps}
-use Rattle.driver_calls.specs.Calls.{Call, put, lookup, run-on, read-in, run-gave, abstract-call, Event, event, ran, events-of}
-use Rattle.driver_calls.specs.Calls.{terms-after}
+use Rattle.driver_calls.specs.Calls.{Call, put, lookup, run-on, open-on, pass-on, read-in, run-gave, abstract-call, Event, event}
+use Rattle.driver_calls.specs.Calls.{ran, events-of, terms-after}
+use Rattle.driver_calls.proofs.Turns.{open-shows, pass-shows, turn-keeps}
 use Rattle.driver_run.proofs.Accepting.{AcceptedRun, run-accepted}
 
 run-grows : (tl al : ℕ) (ts : List Term) (b : Lent) → Grown ts (abstract-run tl al ts b .held)
@@ -45,6 +47,10 @@ unfolding abstract-call
 abstract-grows tl al ts (put t) = put-grows tl al ts t
 abstract-grows tl al ts (lookup i) = grown-none ts
 abstract-grows tl al ts (run-on b) = run-grows tl al ts b
+abstract-grows tl al ts (open-on b) =
+    turn-keeps open-past open-shows tl al ts b (Grown ts) (put-all-grows tl al ts run-terms) (grown-none ts)
+abstract-grows tl al ts (pass-on b) =
+    turn-keeps pass-past pass-shows tl al ts b (Grown ts) (put-all-grows tl al ts run-terms) (grown-none ts)
 abstract-grows tl al ts (read-in l f) =
     read-keeps (Grown ts) tl al (λ us r ws g e. grown-trans ts us ws g (put-all-grows tl al us r ws e)) ts l f (grown-none ts)
 
@@ -120,6 +126,14 @@ first-reading tl al ts ws (lookup x) b o e g n =
     absurd (omega arith)
 first-reading tl al ts ws (read-in l f) b o e g n =
     let f : run-on b ≡ read-in l f = ap (λ (x : Event). x .call) e in
+    let z : _≡_ {A = ℕ} 0 1 = cc in
+    absurd (omega arith)
+first-reading tl al ts ws (open-on x) b o e g n =
+    let f : run-on b ≡ open-on x = ap (λ (x : Event). x .call) e in
+    let z : _≡_ {A = ℕ} 0 1 = cc in
+    absurd (omega arith)
+first-reading tl al ts ws (pass-on x) b o e g n =
+    let f : run-on b ≡ pass-on x = ap (λ (x : Event). x .call) e in
     let z : _≡_ {A = ℕ} 0 1 = cc in
     absurd (omega arith)
 first-reading tl al ts ws (run-on b′) b o e g n =

@@ -1,3 +1,4 @@
+pub mod Turns
 pub mod Abstraction
 pub mod Growth
 pub mod Unbroken

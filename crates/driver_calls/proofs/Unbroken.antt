@@ -1,39 +1,28 @@
 -- Refusal 1 is never computed. Assumes nothing.
 use mathlib.Core.Path.{_≡_, sym, subst}
 use mathlib.Core.Logic.{_⊎_, inl, inr, _≢_}
-use mathlib.Core.Bool.{Bool, true, false, _&&_}
+use mathlib.Core.Bool.{Bool, true, false}
 use mathlib.Core.Option.{Option, some, none}
 use mathlib.Core.List.{List, [], _∷_, _++_}
-use Prim.Native.Nat.{ℕ, zero, suc, _<_}
+use Prim.Native.Nat.{ℕ, zero, suc}
 use native.Mathlib.Omega.{arith}
-use lib.Dec.{T, ltb, ltb→lt}
+use lib.Dec.{ltb}
 use lib.ListN.{length}
 use Rattle.driver_refusals.specs.Lent.{Lent}
 use Rattle.driver_load.specs.Closed.{outcome-answer, closed}
 use Rattle.driver_run.specs.Run.{run-all-put, run-passed, abstract-run}
-use Rattle.driver_refusals.specs.RunRefusals.{Refusal, first-refusal, run-refusals}
+use Rattle.driver_turns.specs.Turns.{open-past, pass-past}
+use Rattle.driver_refusals.specs.RunRefusals.{first-refusal, run-refusals}
 use Rattle.dictionary_layout.specs.Terms.{Term, run-terms}
 use Rattle.dictionary_layout.specs.Dictionary.{place-from, kind-known, short, roomy, put-answer, put-at, abstract-put, All-put, full}
 use Rattle.dictionary_layout.specs.Dictionary.{all-put, put-all, Lookup-answer, lookup-answer, term-of, abstract-lookup}
 use Rattle.common.specs.Triples.{Row, In, if}
 use Rattle.meaning.specs.Run.{Outcome, store-full, findings-full, accepted}
-use Rattle.common.proofs.Lists.{in-nil, in-cons, and→}
+use Rattle.common.proofs.Lists.{in-nil, in-cons}
 use Rattle.ntriples.proofs.Growing.{read-not-1}
-use Rattle.driver_calls.specs.Calls.{Call, put, lookup, run-on, read-in, abstract-call, Event, event, events-of, number-of}
-
--- the refusals after refusal 1
-abbrev past-1 : List Refusal → Bool
-past-1 [] = true
-past-1 (s ∷ r) = ltb 1 (s .number) && past-1 r
-
-first-refusal-not-1 : (r : List Refusal) → T (past-1 r) → first-refusal r ≢ 1
-first-refusal-not-1 [] h e = omega arith
-first-refusal-not-1 (s ∷ r) h e =
-    let (a, k) = and→ (ltb 1 (s .number)) (past-1 r) h in go (s .met) (ltb→lt 1 (s .number) a) e (first-refusal-not-1 r k)
-  where
-    go : (b : Bool) → 1 < s .number → (if b (λ _. s .number) (λ _. first-refusal r)) ≡ 1 → (first-refusal r ≢ 1) → ⊥
-    go true a e k = omega arith
-    go false a e k = k e
+use Rattle.driver_calls.specs.Calls.{Call, put, lookup, run-on, open-on, pass-on, read-in, abstract-call, Event, event}
+use Rattle.driver_calls.specs.Calls.{events-of, number-of}
+use Rattle.driver_calls.proofs.Turns.{run-refusal-not-1, open-shows, pass-shows, turn-not-1}
 
 put-not-1 : (tl al : ℕ) (ts : List Term) (t : Term) → abstract-put tl al ts t .number ≢ 1
 unfolding abstract-put
@@ -65,7 +54,7 @@ lookup-not-1 ts i =
 
 run-not-1 : (tl al : ℕ) (ts : List Term) (b : Lent) → abstract-run tl al ts b .answer .number ≢ 1
 unfolding abstract-run
-run-not-1 tl al ts b = passed (first-refusal (run-refusals (length ts) b)) (first-refusal-not-1 (run-refusals (length ts) b) tt)
+run-not-1 tl al ts b = passed (first-refusal (run-refusals (length ts) b)) (run-refusal-not-1 (length ts) b)
   where
     judge : (o : Outcome Row) → outcome-answer b o .number ≢ 1
     judge store-full = omega arith
@@ -85,6 +74,8 @@ unfolding abstract-call
 never-1 tl al ts (put t) = put-not-1 tl al ts t
 never-1 tl al ts (lookup i) = lookup-not-1 ts i
 never-1 tl al ts (run-on b) = run-not-1 tl al ts b
+never-1 tl al ts (open-on b) = turn-not-1 open-past open-shows tl al ts b
+never-1 tl al ts (pass-on b) = turn-not-1 pass-past pass-shows tl al ts b
 never-1 tl al ts (read-in l f) = read-not-1 tl al ts l f
 
 pub events-unbroken : (tl al : ℕ) (ts : List Term) (cs : List Call) (e : Event) → In e (events-of tl al ts cs) → number-of (e .out) ≢ 1

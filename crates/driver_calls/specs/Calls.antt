@@ -1,6 +1,7 @@
--- Lists of calls: each put, lookup, run and read is lent the dictionary as the call before left it. What each gives over contents, and
--- what it must give, computed from the lengths of table and arena and the calls' other arguments alone. REFERENCE 8.1 and 8.2. A further
--- kind of call that is lent the dictionary is one more constructor of `Call`, and a line in each definition. Assumes nothing.
+-- Lists of calls: each put, lookup, run, open, pass and read is lent the dictionary as the call before left it. What each gives over
+-- contents, and what it must give, computed from the lengths of table and arena and the calls' other arguments alone. REFERENCE 8.1 and
+-- 8.2. A further kind of call that is lent the dictionary is one more constructor of `Call`, and a line in each definition. Assumes
+-- nothing.
 use mathlib.Core.List.{List, [], _∷_}
 use Prim.Native.Nat.{ℕ}
 use Rattle.dictionary_layout.specs.Terms.{Term}
@@ -10,13 +11,17 @@ use Rattle.dictionary_layout.specs.Calls.{put-gives, lookup-gives}
 use Rattle.driver_refusals.specs.Lent.{Lent}
 use Rattle.driver_load.specs.Closed.{Run-answer}
 use Rattle.driver_run.specs.Run.{abstract-run, run-gives}
+use Rattle.driver_step.specs.Step.{Turn-answer}
+use Rattle.driver_turns.specs.Turns.{open-past, pass-past, abstract-turn, turn-gives}
 use Rattle.ntriples.specs.Reading.{Read-answer, abstract-read, read-gives}
 
--- a call, with what it is lent besides the dictionary: a read its load and its file
+-- a call, with what it is lent besides the dictionary: an opening call and a pass what a run is, a read its load and its file
 pub data Call : Type 0 where
   put : Term → Call
   lookup : ℕ → Call
   run-on : Lent → Call
+  open-on : Lent → Call
+  pass-on : Lent → Call
   read-in : (load file : List ℕ) → Call
 
 -- what it gives, and leaves in what it was lent besides the dictionary: a put its number and id
@@ -24,9 +29,10 @@ pub data Out : Type 0 where
   put-gave : ℕ → ℕ → Out
   lookup-gave : Lookup-answer → Out
   run-gave : Run-answer → Out
+  turn-gave : Turn-answer → Out
   read-gave : Read-answer → Out
 
--- OVER CONTENTS: what the contracts of put, lookup, run and read promise
+-- OVER CONTENTS: what the contracts of put, lookup, run, open, pass and read promise
 pub record Left : Type 0 where
   pub out : Out
   pub contents : Dict
@@ -35,10 +41,12 @@ unfoldable pub call-gives : Dict → Call → Left
 call-gives d (put t) = let a = put-gives d t in record { out = put-gave (a .number) (a .id); contents = a .contents }
 call-gives d (lookup i) = record { out = lookup-gave (lookup-gives d i); contents = d }
 call-gives d (run-on b) = let a = run-gives d b in record { out = run-gave (a .answer); contents = a .contents }
+call-gives d (open-on b) = let a = turn-gives open-past d b in record { out = turn-gave (a .answer); contents = a .contents }
+call-gives d (pass-on b) = let a = turn-gives pass-past d b in record { out = turn-gave (a .answer); contents = a .contents }
 call-gives d (read-in l f) = let a = read-gives d l f in record { out = read-gave (a .answer); contents = a .contents }
 
--- COMPUTED from the terms held: urn:_, the start's, then each new one that an accepted put, a run that passes 7, or an accepted read
--- puts, in order
+-- COMPUTED from the terms held: urn:_, the start's, then each new one that an accepted put, a run or an opening call that passes 7, a
+-- pass that passes 7 with a store that it takes, or an accepted read puts, in order
 pub record Abstract-result : Type 0 where
   pub out : Out
   pub held : List Term
@@ -47,6 +55,8 @@ unfoldable pub abstract-call : ℕ → ℕ → List Term → Call → Abstract-r
 abstract-call tl al ts (put t) = let p = abstract-put tl al ts t in record { out = put-gave (p .number) (p .id); held = p .held }
 abstract-call tl al ts (lookup i) = record { out = lookup-gave (abstract-lookup ts i); held = ts }
 abstract-call tl al ts (run-on b) = let r = abstract-run tl al ts b in record { out = run-gave (r .answer); held = r .held }
+abstract-call tl al ts (open-on b) = let r = abstract-turn open-past tl al ts b in record { out = turn-gave (r .answer); held = r .held }
+abstract-call tl al ts (pass-on b) = let r = abstract-turn pass-past tl al ts b in record { out = turn-gave (r .answer); held = r .held }
 abstract-call tl al ts (read-in l f) = let r = abstract-read tl al ts l f in record { out = read-gave (r .answer); held = r .held }
 
 -- a call and what it gave
@@ -87,4 +97,5 @@ abbrev pub number-of : Out → ℕ
 number-of (put-gave n i) = n
 number-of (lookup-gave l) = l .number
 number-of (run-gave o) = o .number
+number-of (turn-gave o) = o .run .number
 number-of (read-gave o) = o .number

@@ -21,7 +21,7 @@ use Rattle.dictionary_layout.specs.Layout.{Dict, decode}
 use Rattle.dictionary_layout.specs.Values.{contents}
 use Rattle.dictionary_run_terms.specs.declared.values.RunTerms.{RunTerms}
 use Rattle.dictionary_entries.proofs.Reading.{Lengths, lengths}
-use Rattle.engine_start.specs.Starting.{StartAdded, containers-by, Loadable, StartOf}
+use Rattle.engine_start.specs.Starting.{start-pass, StartAdded, containers-by, Loadable, StartOf}
 use Rattle.engine_start.proofs.Starting.{rows-triples}
 use Rattle.engine_table.specs.Clauses.{Clause, TableOfRules}
 use Rattle.engine_lists.specs.Lists.{Ready, Made}
@@ -99,9 +99,10 @@ module _ {table arena load store work : List ℕ} {r : RunTerms} (A : Termed tab
       (subst (λ (k : Containers). k .member < terms) same-containers (A .below .member))
       x y z (closure-is c (triples load) .holds x y z i)
 
-  module _ {l₀ l h : List ℕ} {n : ℕ} {f : Bool} (a : StartAdded (StartOf (containers-by (decode d) (r .ids)) load) l₀ 0 l h n f) where
-    pub started : StartAdded (StartOf c load) l₀ 0 l h n f
-    started = subst (λ (k : Containers). StartAdded (StartOf k load) l₀ 0 l h n f) same-containers a
+  module _ {l₀ l h : List ℕ} {n : ℕ} {f : Bool}
+      (a : StartAdded (StartOf (containers-by (decode d) (r .ids)) load) (start-pass 0) l₀ 0 l h n f) where
+    pub started : StartAdded (StartOf c load) (start-pass 0) l₀ 0 l h n f
+    started = subst (λ (k : Containers). StartAdded (StartOf k load) (start-pass 0) l₀ 0 l h n f) same-containers a
 
     row-known : (j : ℕ) → j < n → Each (λ i. i < terms) (rowAt l j .s) (rowAt l j .p) (rowAt l j .o)
     row-known j p = start-known _ _ _ (rows-start c (triples load) started _ _ _ (record { at = j; below = p; is = refl }))

@@ -11,6 +11,7 @@ use borrow.Author.Tests.{eqb-true, eqb-false}
 use Rattle.common.specs.Sizes.{load-width}
 use Rattle.common.specs.Triples.{Row, if}
 use Rattle.meaning.specs.Run.{Outcome, store-full, findings-full, accepted}
+use Rattle.meaning_turns.specs.Turns.{Turn, going, ended}
 use Rattle.dictionary_layout.specs.Terms.{Term, start-terms, run-terms}
 use Rattle.dictionary_layout.specs.Layout.{Dict, dict, chain, size, layout}
 use Rattle.dictionary_layout.specs.Dictionary.{Put-answer, abstract-put, All-put, full, all-put, put-all, Lookup-answer, lookup-answer}
@@ -25,19 +26,22 @@ use Rattle.driver_refusals.specs.Lent.{Lent}
 use Rattle.driver_load.specs.Closed.{outcome-answer, closed}
 use Rattle.driver_run.specs.Run.{unchanged, run-all-put, run-passed, Abstract-run-result, abstract-run, Run-result, run-laid, run-gives}
 use Rattle.driver_refusals.specs.RunRefusals.{first-refusal, run-refusals}
+use Rattle.driver_step.specs.Step.{kept, turn-shown}
+use Rattle.driver_turns.specs.Turns.{Past-7, open-past, pass-past, abstract-turn, Turn-result, turn-laid, turn-gives}
 use Rattle.ntriples.specs.Reading as reading
 use Rattle.ntriples.specs.Reading.{refused, read, read-file, read-answer, Abstract-read-result, shown, abstract-read, Read-result}
 use Rattle.ntriples.specs.Reading.{read-laid, read-gives}
-use Rattle.driver_calls.specs.Calls.{Call, put, lookup, run-on, read-in, abstract-call, terms-after}
+use Rattle.driver_calls.specs.Calls.{Call, put, lookup, run-on, open-on, pass-on, read-in, abstract-call, terms-after}
+use Rattle.driver_calls.proofs.Turns.{Shows, open-shows, pass-shows, turn-cases}
 use Rattle.driver_calls.proofs.Abstraction.{abstract-holds}
 use Rattle.edge_bytes.specs.Bytes.{bytes-of, read-buffer, changes, left-bytes}
 use Rattle.edge_bytes.proofs.Coding.{changes-0, left-written}
 use Rattle.edge_c.specs.Calls.{left-dict, start-bytes-give, put-in-bytes, put-bytes-give, Place-answer, place-at, place-gives}
-use Rattle.edge_c.specs.Calls.{read-lent, run-in-bytes, run-bytes-give, read-in-bytes, read-bytes-give}
+use Rattle.edge_c.specs.Calls.{read-lent, run-in-bytes, run-bytes-give, turn-in-bytes, turn-bytes-give, read-in-bytes, read-bytes-give}
 use Rattle.edge_c.proofs.Forwarding.{length-numbers, read-whole, read-ragged}
-use Rattle.edge_byte_calls.specs.ByteCalls.{Byte-out, put-out, place-out, run-out, read-out, Byte-left, byte-call-gives, byte-event}
-use Rattle.edge_byte_calls.specs.ByteCalls.{Byte-list-left, byte-calls-give, read-call, abstract-place, abstract-out}
-use Rattle.edge_byte_calls.specs.ByteCalls.{byte-events-of, dict-in-bytes, byte-abstract-from}
+use Rattle.edge_byte_calls.specs.ByteCalls.{Byte-out, put-out, place-out, run-out, turn-out, read-out, Byte-left, byte-call-gives}
+use Rattle.edge_byte_calls.specs.ByteCalls.{byte-event, Byte-list-left, byte-calls-give, read-call, abstract-place}
+use Rattle.edge_byte_calls.specs.ByteCalls.{turn-answer-in-bytes, abstract-out, byte-events-of, dict-in-bytes, byte-abstract-from}
 use Rattle.edge_byte_calls.proofs.Fitting.{read-back}
 
 -- the terms held before and after a call that answered n: a call that changes no buffer puts no term
@@ -73,6 +77,19 @@ run-kept tl al ts b = go (first-refusal (run-refusals (length ts) b))
     go : (n : ℕ) → kept (run-passed n tl al ts b)
     go zero = three (put-all tl al ts run-terms)
     go (suc n) = inl refl
+
+-- of both: every refusal, a pass's 4 for its store among them, leaves the terms, and every turn shown is one that changes buffers
+turn-kept : (f : Past-7) → Shows f → (tl al : ℕ) (ts : List Term) (b : Lent)
+    → let r = abstract-turn f tl al ts b in Kept ts (r .answer .run .number) (r .held)
+unfolding changes
+turn-kept f w tl al ts b =
+    turn-cases f w tl al ts b (λ r. Kept ts (r .answer .run .number) (r .held)) (λ n e. inl refl) (λ us t e. inr (shown t))
+  where
+    shown : (t : Turn) → true ≡ changes (turn-shown b t .run .number)
+    shown (going rows) = refl
+    shown (ended store-full) = refl
+    shown (ended findings-full) = refl
+    shown (ended (accepted N F n k)) = refl
 
 read-kept : (tl al : ℕ) (ts : List Term) (load file : List ℕ)
     → let r = abstract-read tl al ts load file in Kept ts (r .answer .number) (r .held)
@@ -138,6 +155,23 @@ module _ (tl al : ℕ) (ts : List Term) where
 abbrev left : Byte-out → Dict → Byte-left
 left o d = record { out = o; contents = d }
 
+-- an opening call or a pass
+turn-abstract : (f : Past-7) → Shows f → (tl al : ℕ) (ts : List Term) (b : Lent) → Holds tl al ts
+    → let a = turn-bytes-give f (dict-in-bytes (layout tl al ts)) b in
+    let r = abstract-turn f tl al ts (read-lent b) in
+    left (turn-out (a .answer)) (a .contents)
+    ≡ left (turn-out (turn-answer-in-bytes b (r .answer))) (dict-in-bytes (layout tl al (r .held)))
+unfolding turn-bytes-give turn-gives
+turn-abstract f w tl al ts b h =
+    let d = layout tl al ts in
+    let m = read-lent b in
+    let r = abstract-turn f tl al ts m in
+    ap (λ (x : Turn-result). let a = turn-in-bytes (bytes-of (d .table)) b x in left (turn-out (a .answer)) (a .contents))
+    (ap (λ (x : Dict). turn-gives f x m) (read-back h)
+    ∙ on-layout tl al ts (turn-laid f m) (λ _. record { answer = kept 1 m; contents = d }) h)
+    ∙ ap (left (turn-out (turn-answer-in-bytes b (r .answer))))
+    (left-laid tl al ts (r .answer .run .number) (r .held) (turn-kept f w tl al ts m))
+
 abbrev laid : ℕ → ℕ → List Term → Call → Byte-left
 laid tl al ts c = left (abstract-out tl al ts c) (dict-in-bytes (layout tl al (abstract-call tl al ts (read-call c) .held)))
 
@@ -162,6 +196,8 @@ byte-call-abstract tl al ts (run-on b) h =
     (ap (λ (x : Dict). run-gives x m) (read-back h)
     ∙ on-layout tl al ts (run-laid m) (λ _. record { answer = unchanged 1 m; contents = d }) h)
     ∙ ap (left (abstract-out tl al ts (run-on b))) (left-laid tl al ts (r .answer .number) (r .held) (run-kept tl al ts m))
+byte-call-abstract tl al ts (open-on b) h = turn-abstract open-past open-shows tl al ts b h
+byte-call-abstract tl al ts (pass-on b) h = turn-abstract pass-past pass-shows tl al ts b h
 byte-call-abstract tl al ts (read-in l f) h =
     let d = layout tl al ts in
     let m = read-buffer l in

@@ -19,7 +19,8 @@ use Rattle.driver_refusals.specs.Lent.{Lent}
 use Rattle.driver_load.specs.Closed.{Run-answer}
 use Rattle.driver_run.specs.Run.{abstract-run}
 use Rattle.driver_run.proofs.PuttingAll.{Grown, grown-length, grown-trans}
-use Rattle.driver_calls.specs.Calls.{Call, put, lookup, run-on, read-in, run-gave, abstract-call, event, events-of, terms-after, number-of}
+use Rattle.driver_calls.specs.Calls.{Call, put, lookup, run-on, open-on, pass-on, read-in, run-gave, abstract-call, event, events-of}
+use Rattle.driver_calls.specs.Calls.{terms-after, number-of}
 use Rattle.driver_calls.proofs.Abstraction.{abstract-holds}
 use Rattle.driver_calls.proofs.Growth.{abstract-grows, calls-grow}
 use Rattle.driver_calls.proofs.Unbroken.{never-1}
@@ -74,6 +75,8 @@ unfolding abstract-out abstract-call abstract-place
 same-number tl al ts (put t) = refl
 same-number tl al ts (lookup i) = refl
 same-number tl al ts (run-on b) = refl
+same-number tl al ts (open-on b) = refl
+same-number tl al ts (pass-on b) = refl
 same-number tl al ts (read-in l f) = refl
 
 -- the place of a term that is held

@@ -1,30 +1,34 @@
--- Lists of calls through the C entry points: each put, lookup, run and read is lent the dictionary, its table as bytes, as the call
--- before left it, so what one call writes the next reads. What each gives over bytes, and what it must give, computed from the lengths
--- of table and arena in bytes and the calls' other arguments alone. REFERENCE 8.4 and 9. Assumes nothing.
+-- Lists of calls through the C entry points: each put, lookup, run, open, pass and read is lent the dictionary, its table as bytes, as
+-- the call before left it, so what one call writes the next reads. What each gives over bytes, and what it must give, computed from the
+-- lengths of table and arena in bytes and the calls' other arguments alone. REFERENCE 8.4 and 9. Assumes nothing.
 use mathlib.Core.List.{List, [], _∷_, map}
 use Prim.Native.Nat.{ℕ, _/_}
 use lib.ListN.{take}
 use Rattle.dictionary_layout.specs.Terms.{Term, start-terms}
 use Rattle.dictionary_layout.specs.Layout.{Dict, dict, size, layout}
 use Rattle.dictionary_layout.specs.Dictionary.{abstract-put, abstract-lookup}
+use Rattle.driver_refusals.specs.Lent.{Lent}
 use Rattle.driver_load.specs.Closed.{Run-answer}
 use Rattle.driver_run.specs.Run.{abstract-run}
+use Rattle.driver_step.specs.Step.{Turn-answer}
+use Rattle.driver_turns.specs.Turns.{open-past, pass-past, abstract-turn}
 use Rattle.ntriples.specs.Reading.{Read-answer, abstract-read}
-use Rattle.driver_calls.specs.Calls.{Call, put, lookup, run-on, read-in, abstract-call, terms-after}
+use Rattle.driver_calls.specs.Calls.{Call, put, lookup, run-on, open-on, pass-on, read-in, abstract-call, terms-after}
 use Rattle.edge_bytes.specs.Bytes.{bytes-of, read-buffer}
 use Rattle.edge_c.specs.Calls.{read-dict, put-bytes-give, Place-answer, place-at, place-gives, read-lent, answer-in-bytes}
-use Rattle.edge_c.specs.Calls.{run-bytes-give, load-in-bytes, read-bytes-give}
+use Rattle.edge_c.specs.Calls.{run-bytes-give, turn-bytes-give, load-in-bytes, read-bytes-give}
 
--- what a call gives: a put its number and id, a lookup the term's place in the arena, a run and a read their answer and the bytes that
--- they leave
+-- what a call gives: a put its number and id, a lookup the term's place in the arena, a run, an opening call, a pass and a read their
+-- answer and the bytes that they leave
 pub data Byte-out : Type 0 where
   put-out : ℕ → ℕ → Byte-out
   place-out : Place-answer → Byte-out
   run-out : Run-answer → Byte-out
+  turn-out : Turn-answer → Byte-out
   read-out : Read-answer → Byte-out
 
--- OVER BYTES: what the contracts of the C entry points promise. A run's buffers, a read's load and the dictionary's
--- table are bytes.
+-- OVER BYTES: what the contracts of the C entry points promise. The buffers of a run, an opening call and a pass, a read's load and the
+-- dictionary's table are bytes.
 pub record Byte-left : Type 0 where
   pub out : Byte-out
   pub contents : Dict
@@ -33,6 +37,8 @@ unfoldable pub byte-call-gives : Dict → Call → Byte-left
 byte-call-gives d (put t) = let a = put-bytes-give d t in record { out = put-out (a .number) (a .id); contents = a .contents }
 byte-call-gives d (lookup i) = record { out = place-out (place-gives (read-dict d) i); contents = d }
 byte-call-gives d (run-on b) = let a = run-bytes-give d b in record { out = run-out (a .answer); contents = a .contents }
+byte-call-gives d (open-on b) = let a = turn-bytes-give open-past d b in record { out = turn-out (a .answer); contents = a .contents }
+byte-call-gives d (pass-on b) = let a = turn-bytes-give pass-past d b in record { out = turn-out (a .answer); contents = a .contents }
 byte-call-gives d (read-in l f) = let a = read-bytes-give d l f in record { out = read-out (a .answer); contents = a .contents }
 
 -- a call and what it gave
@@ -60,16 +66,24 @@ abbrev pub read-call : Call → Call
 read-call (put t) = put t
 read-call (lookup i) = lookup i
 read-call (run-on b) = run-on (read-lent b)
+read-call (open-on b) = open-on (read-lent b)
+read-call (pass-on b) = pass-on (read-lent b)
 read-call (read-in l f) = read-in (read-buffer l) f
 
 -- terms' bytes follow each other without gaps, so a term's begin where those of the terms before it end; 0 and 0 after a refusal
 unfoldable pub abstract-place : List Term → ℕ → Place-answer
 abstract-place ts i = place-at (size (take i ts)) (abstract-lookup ts i)
 
+-- the answer a of an opening call or a pass that was lent the buffers b of bytes
+abbrev pub turn-answer-in-bytes : Lent → Turn-answer → Turn-answer
+turn-answer-in-bytes b a = record { run = answer-in-bytes b (a .run); done = a .done }
+
 unfoldable pub abstract-out : ℕ → ℕ → List Term → Call → Byte-out
 abstract-out tl al ts (put t) = let p = abstract-put tl al ts t in put-out (p .number) (p .id)
 abstract-out tl al ts (lookup i) = place-out (abstract-place ts i)
 abstract-out tl al ts (run-on b) = run-out (answer-in-bytes b (abstract-run tl al ts (read-lent b) .answer))
+abstract-out tl al ts (open-on b) = turn-out (turn-answer-in-bytes b (abstract-turn open-past tl al ts (read-lent b) .answer))
+abstract-out tl al ts (pass-on b) = turn-out (turn-answer-in-bytes b (abstract-turn pass-past tl al ts (read-lent b) .answer))
 abstract-out tl al ts (read-in l f) = read-out (load-in-bytes l (abstract-read tl al ts (read-buffer l) f .answer))
 
 unfoldable pub byte-events-of : ℕ → ℕ → List Term → List Call → List Byte-event
@@ -97,4 +111,5 @@ abbrev pub byte-number-of : Byte-out → ℕ
 byte-number-of (put-out n i) = n
 byte-number-of (place-out p) = p .number
 byte-number-of (run-out o) = o .number
+byte-number-of (turn-out o) = o .run .number
 byte-number-of (read-out o) = o .number

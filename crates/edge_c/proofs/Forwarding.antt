@@ -179,12 +179,16 @@ Read-table b t = Read table-limit 1 b t
 abbrev pub Read-load : List ℕ → List ℕ → Type 0
 Read-load b l = Read longest-load (longer-load (length b / 4)) b l
 
+abbrev pub Read-store : List ℕ → List ℕ → Type 0
+Read-store b s = Read longest-store 1 b s
+
 -- n numbers stood there before, which is what the contract of `read_numbers` speaks of
 pub read-as : {most more : ℕ} {b t : List ℕ} {n : ℕ} → n ≡ forwarded most more (length b) → length t ≡ n
     → (length b ≡ 4 * n → t ≡ numbers-of b) → Read most more b t
 read-as e k f = record { passed = by-length (k ∙ e); numbers = λ p. f (p ∙ ap (λ (m : ℕ). 4 * m) k) }
 
--- THE NUMBERS t AND m that a run is passed for the bytes of the table and of b: the table's and the load's are read
+-- THE NUMBERS t AND m that a run, an opening call or a pass is passed for the bytes of the table and of b: the table's and the load's are
+-- read; a pass reads the store's too
 pub record Passed (table : List ℕ) (b : Lent) (t : List ℕ) (m : Lent) : Type 0 where
   pub table-read : Read-table table t
   pub load-read : Read-load (b .load) (m .load)
@@ -192,14 +196,14 @@ pub record Passed (table : List ℕ) (b : Lent) (t : List ℕ) (m : Lent) : Type
   pub findings-passed : Findings-forwarded (b .findings) (length (m .findings))
   pub work-passed : Work-forwarded (b .work) (length (m .work))
 
-pub all-read : {t t' l' table : List ℕ} {m b : Lent} → Forwarded-all t m table b
+pub all-read : {t t' l' s' table : List ℕ} {m b : Lent} → Forwarded-all t m table b
     → length t' ≡ length t → (length table ≡ 4 * length t → t' ≡ numbers-of table)
     → length l' ≡ length (m .load) → (length (b .load) ≡ 4 * length (m .load) → l' ≡ numbers-of (b .load))
-    → Passed table b t' (lent l' (m .store) (m .findings) (m .work))
-all-read h i p j q = record {
+    → length s' ≡ length (m .store) → Passed table b t' (lent l' s' (m .findings) (m .work))
+all-read h i p j q k = record {
   table-read = read-as (h .table-numbers) i p;
   load-read = read-as (h .load-numbers) j q;
-  store-passed = by-length (h .store-numbers);
+  store-passed = by-length (k ∙ h .store-numbers);
   findings-passed = by-length (h .findings-numbers);
   work-passed = by-length (h .work-numbers);
 }

@@ -16,6 +16,7 @@ use Rattle.dictionary_index.specs.Values.{begin-at}
 use Rattle.driver_refusals.specs.Lent.{Lent, lent}
 use Rattle.driver_load.specs.Closed.{Run-answer}
 use Rattle.driver_run.specs.Run.{Run-result, run-gives}
+use Rattle.driver_turns.specs.Turns.{Past-7, Turn-result, turn-gives}
 use Rattle.ntriples.specs.Reading.{Read-answer, read-answer, Read-result, read-gives}
 use Rattle.edge_bytes.specs.Bytes.{bytes-of, read-buffer, left-bytes}
 
@@ -90,6 +91,23 @@ run-bytes-give d b = run-in-bytes (d .table) b (run-gives (read-dict d) (read-le
 abbrev pub run-result : ℕ → ℕ → List ℕ → List ℕ → List ℕ → List ℕ → Dict → Run-result
 run-result n count counts s f w d =
     record { answer = record { number = n; count = count; counts = counts; store = s; findings = f; work = w }; contents = d }
+
+-- OPEN AND PASS, which are lent what a run is
+abbrev pub turn-in-bytes : List ℕ → Lent → Turn-result → Turn-result
+turn-in-bytes table b r = record {
+  answer = record { run = answer-in-bytes b (r .answer .run); done = r .answer .done };
+  contents = left-dict (r .answer .run .number) table (r .contents);
+}
+
+unfoldable pub turn-bytes-give : Past-7 → Dict → Lent → Turn-result
+turn-bytes-give f d b = turn-in-bytes (d .table) b (turn-gives f (read-dict d) (read-lent b))
+
+-- the answer of an opening call or a pass, with all that it is lent as it is left
+abbrev pub turn-result : ℕ → ℕ → ℕ → List ℕ → List ℕ → List ℕ → List ℕ → Dict → Turn-result
+turn-result n count done counts s f w d = record {
+  answer = record { run = record { number = n; count = count; counts = counts; store = s; findings = f; work = w }; done = done };
+  contents = d;
+}
 
 -- READ: its load is bytes too. Refusals 1 and 2 leave the load as it was; the others, which leave the dictionary, make it zero
 unfoldable pub changes-load : ℕ → Bool

@@ -1,9 +1,10 @@
-// The C entry points: start, put, lookup, run and read over byte slices. Ids are little-endian. Each entry point owns the numbers that the
-// calls on numbers work on, and lends them to one function, which knows them as slices only.
+// The C entry points: start, put, lookup, run, open, pass and read over byte slices. Ids are little-endian. Each entry point owns the
+// numbers that the calls on numbers work on, and lends them to one function, which knows them as slices only.
 mod dictionary; // dictionary.rt: start, put and lookup
 mod read; // read.rt: read
 mod run; // run.rt: run
 mod sizes; // sizes.rt: how many numbers the calls are passed
+mod turns; // turns.rt: open and pass
 
 use crate::dictionary::lookup_in;
 use crate::dictionary::put_in;
@@ -15,6 +16,7 @@ use crate::sizes::FULL_ARRAY;
 use crate::sizes::LOAD_ARRAY;
 use crate::sizes::STORE;
 use crate::sizes::WORK;
+use crate::turns::turn_in;
 use common::TABLE_LIMIT;
 ghost use mathlib.Core.Path.{_≡_};
 ghost use Rattle.dictionary_layout.specs.Terms.{term};
@@ -22,7 +24,8 @@ ghost use Rattle.dictionary_layout.specs.Layout.{dict};
 ghost use Rattle.dictionary_layout.specs.Calls.{start-result, put-result};
 ghost use Rattle.driver_refusals.specs.Lent.{lent};
 ghost use Rattle.edge_c.specs.Calls.{read-dict, start-bytes-give, put-bytes-give, place-answer, Places, run-bytes-give};
-ghost use Rattle.edge_c.specs.Calls.{run-result, read-result, read-bytes-give};
+ghost use Rattle.edge_c.specs.Calls.{run-result, turn-bytes-give, turn-result, read-result, read-bytes-give};
+ghost use Rattle.driver_turns.specs.Turns.{open-past, pass-past};
 
 // Starts a dictionary: refusal 4, 7 or 0. The counters are written.
 #[no_mangle]
@@ -135,6 +138,109 @@ pub extern "C" fn tablestork_run(
     let five = next.answer.counts;
     *counts = five;
     next.answer.number
+}
+
+// Opens a run: refusal 1 to 8 or 0. The triple count, 0 for not done and five zeros are written.
+#[no_mangle]
+pub extern "C" fn tablestork_open(
+    table: &mut [u8],
+    arena: &mut [u8],
+    terms: &mut u32,
+    used: &mut u32,
+    load: &[u8],
+    store: &mut [u8],
+    findings: &mut [u8],
+    work: &mut [u8],
+    triples: &mut u32,
+    done: &mut u32,
+    counts: &mut [u32; 5],
+) -> u32
+    ensures { λ r. ⌜ turn-result r (now (triples .exit)) (now (done .exit)) (now (counts .exit))
+        (now (store .exit)) (now (findings .exit)) (now (work .exit))
+        (dict (now (table .exit)) (now (arena .exit)) (now (terms .exit)) (now (used .exit)))
+        ≡ turn-bytes-give open-past (dict (now (table .entry)) (now (arena .entry)) (now (terms .entry)) (now (used .entry)))
+        (lent (now (load .entry)) (now (store .entry)) (now (findings .entry)) (now (work .entry))) ⌝ }
+{
+    let mut t = [0u32; TABLE_LIMIT];
+    let mut l = [0u32; LOAD_ARRAY];
+    let mut s = [0u32; STORE];
+    let mut f = [0u32; FINDINGS];
+    let mut w = [0u32; WORK];
+    let next = turn_in(
+        false,
+        &mut t,
+        &mut l,
+        &mut s,
+        &mut f,
+        &mut w,
+        table,
+        arena,
+        *terms,
+        *used,
+        load,
+        store,
+        findings,
+        work,
+    );
+    *terms = next.counters.terms;
+    *used = next.counters.used;
+    *triples = next.answer.run.count;
+    *done = next.answer.done;
+    let five = next.answer.run.counts;
+    *counts = five;
+    next.answer.run.number
+}
+
+// One pass of a run: refusal 1 to 9 or 0, of which 4 is tried once more, after 7. The triple count, whether the run is done and the five
+// counts are written.
+#[no_mangle]
+pub extern "C" fn tablestork_pass(
+    table: &mut [u8],
+    arena: &mut [u8],
+    terms: &mut u32,
+    used: &mut u32,
+    load: &[u8],
+    store: &mut [u8],
+    findings: &mut [u8],
+    work: &mut [u8],
+    triples: &mut u32,
+    done: &mut u32,
+    counts: &mut [u32; 5],
+) -> u32
+    ensures { λ r. ⌜ turn-result r (now (triples .exit)) (now (done .exit)) (now (counts .exit))
+        (now (store .exit)) (now (findings .exit)) (now (work .exit))
+        (dict (now (table .exit)) (now (arena .exit)) (now (terms .exit)) (now (used .exit)))
+        ≡ turn-bytes-give pass-past (dict (now (table .entry)) (now (arena .entry)) (now (terms .entry)) (now (used .entry)))
+        (lent (now (load .entry)) (now (store .entry)) (now (findings .entry)) (now (work .entry))) ⌝ }
+{
+    let mut t = [0u32; TABLE_LIMIT];
+    let mut l = [0u32; LOAD_ARRAY];
+    let mut s = [0u32; STORE];
+    let mut f = [0u32; FINDINGS];
+    let mut w = [0u32; WORK];
+    let next = turn_in(
+        true,
+        &mut t,
+        &mut l,
+        &mut s,
+        &mut f,
+        &mut w,
+        table,
+        arena,
+        *terms,
+        *used,
+        load,
+        store,
+        findings,
+        work,
+    );
+    *terms = next.counters.terms;
+    *used = next.counters.used;
+    *triples = next.answer.run.count;
+    *done = next.answer.done;
+    let five = next.answer.run.counts;
+    *counts = five;
+    next.answer.run.number
 }
 
 // Reads a file: refusal 1, 2, 14, 13, 11, 7, 3 or 0. The triple count is written.

@@ -23,9 +23,9 @@ ghost use Rattle.edge_bytes.specs.Bytes.{changes, left-bytes, cleared};
 ghost use Rattle.edge_c.specs.Calls.{run-bytes-give};
 ghost use Rattle.edge_c.specs.Forwarded.{Forwarded-all, Enough, Roomy};
 
-// Writes the numbers that a run left back into their buffers, and zeros the list work buffer, unless the run's answer says that it
-// changed none.
-fn write_all(
+// Writes the numbers that a run, an opening call or a pass left back into their buffers, and zeros the list work buffer, unless its answer
+// says that it changed none.
+pub fn write_all(
     answer: u32,
     t: &[u32],
     s: &[u32],

@@ -9,7 +9,7 @@ use lib.ListN.{length, getD, take, drop, replicate}
 use lib.Seq.{length-take-le, take-add, drop-cons}
 use Rattle.common.specs.Triples.{Row, Finding, concat-map, key-finding, Distinct, insert-all, without-zero-rows}
 use Rattle.common.specs.Rows.{flat-rows, flat-findings, filled, cleared}
-use Rattle.store_rows.specs.Rows.{width, wholeRowAt, listed, whole-rows, findingAt, finding-rows}
+use Rattle.store_rows.specs.Rows.{width, wholeRowAt, listed, whole-rows, sorted-rows, findingAt, finding-rows}
 use Rattle.store_rows.specs.Zeros.{Kept}
 use Rattle.store_rows.proofs.Listed.{length-listed}
 use Rattle.store_rows.proofs.Removing.{concat-snoc}
@@ -79,6 +79,14 @@ answer-left {n} {l} {l₁} {k} {l₂} {l₃} c s v e = record {
 
     room : width * k ≤ length l₂
     room = omega (arith, v .few, v .same-length, s .permuted .same-length, c .room)
+
+-- THE ROWS AT THE END of a turn: sorted, those with a zero id too, cleared
+pub rows-left : {n : ℕ} {l m : List ℕ} → DistinctRows n l → Sorted width 3 n l m
+    → cleared (width * n) m ≡ filled l (flat-rows (sorted-rows n l))
+rows-left {n} {l} {m} c s =
+    let same = s .permuted .same-length in
+    cleared-filled (width * n) l m (flat-rows (sorted-rows n l)) same (omega (arith, same, c .room))
+    (ap flat-rows (sym (rows-sorted n l m s (c .distinct))) ∙ flat-whole-rows n m (omega (arith, same, c .room)))
 
 -- THE FINDINGS AT THE END: sorted, cleared
 pub findings-left : {n : ℕ} {l m : List ℕ} → 5 * n ≤ length l → Distinct (finding-rows n l) → Sorted 5 5 n l m

@@ -5,4 +5,5 @@ pub mod sort; // sort.rt: rows of any width, put in order in place
 
 pub use answer::TRIPLE;
 pub use answer::leave_answer;
+pub use answer::leave_rows;
 pub use sort::sort_rows;

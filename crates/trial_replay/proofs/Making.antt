@@ -4,26 +4,28 @@ use mathlib.Core.Logic.{_≢_}
 use mathlib.Core.List.{List, _++_}
 use Prim.Native.Nat.{ℕ, zero, suc, _+_, _%_, _≤_, _<_}
 use native.Mathlib.Omega.{arith}
+use lib.Dec.{eqb}
 use lib.ListN.{length, getD, set, take, drop}
 use lib.Seq.{ext-getD}
 use borrow.Author.Tests.{lt-ltb, le-ltb, eq-eqb, ne-eqb}
 use Rattle.dictionary_layout.specs.declared.values.Counters.{Counters}
 use Rattle.dictionary_layout.specs.Terms.{term}
-use Rattle.dictionary_layout.specs.Layout.{span}
+use Rattle.dictionary_layout.specs.Layout.{Dict, span}
 use Rattle.dictionary_layout.specs.Values.{contents}
 use Rattle.dictionary_layout.specs.Dictionary.{Lookup-answer}
 use Rattle.dictionary_layout.specs.Calls.{Start-result, Put-result, start-gives, put-gives, lookup-gives}
 use Rattle.dictionary_layout.proofs.Decoding.{length-span}
 use Rattle.driver_refusals.specs.Lent.{Lent, lent}
 use Rattle.driver_run.specs.Run.{Run-result, run-gives}
+use Rattle.driver_turns.specs.Turns.{Turn-result, turn-gives, past, open-gives, pass-gives}
 use Rattle.ntriples.specs.Reading.{Read-result, read-gives}
 use Rattle.trial_buffers.specs.Memory.{cell-from, length-at, Each}
 use Rattle.trial_replay.specs.Made.{numbers-from, bytes-from, give, Held, held, answered, start-made, put-made, narrowed}
-use Rattle.trial_replay.specs.Made.{lookup-made, Run-held, run-held, run-part, run-lent, run-taken, run-made, made-on, made-lent}
-use Rattle.trial_replay.specs.Made.{Read-held, read-held, read-part, read-lent, read-made, made}
+use Rattle.trial_replay.specs.Made.{lookup-made, Run-held, run-held, counted, whole-part, turn-part, run-part, run-lent, run-taken}
+use Rattle.trial_replay.specs.Made.{run-made, Read-held, read-held, read-part, read-lent, read-made, made-on, made-lent, made}
 use Rattle.trial_replay.specs.Cells.{table-length-cell, arena-length-cell, term-length-cell, load-length-cell, store-length-cell}
 use Rattle.trial_replay.specs.Cells.{findings-length-cell, work-length-cell, put-kind-cell, lookup-id-cell, terms-cell, used-cell}
-use Rattle.trial_replay.specs.Cells.{id-cell, kind-cell, part-length-cell, count-cell, counts-cells, table-cells, arena-cells}
+use Rattle.trial_replay.specs.Cells.{id-cell, kind-cell, part-length-cell, count-cell, done-cell, table-cells, arena-cells}
 use Rattle.trial_replay.specs.Cells.{term-cells, part-cells, store-cells, findings-cells, work-cells, load-cells, table-room}
 use Rattle.trial_replay.specs.Cells.{arena-room, term-room, store-room, findings-room, work-room, load-room}
 
@@ -55,7 +57,7 @@ narrow-fits n h = let q = lt-ltb n 4294967296 h in rw q refl
 pub narrow-not : (n : ℕ) → 4294967296 ≤ n → 0 ≡ narrowed n
 narrow-not n h = let q = le-ltb n 4294967296 h in rw q refl
 
--- THE FIVE CALLS
+-- THE SEVEN CALLS
 module _ (m table arena : List ℕ) where
   pub start-is : {s : Start-result} → s ≡ start-gives table arena → {m₁ : List ℕ} →
       m₁ ≡ answered m (s .number) (s .contents .terms) (s .contents .used) →
@@ -80,13 +82,22 @@ module _ (m table arena : List ℕ) where
     unfolding lookup-made
     lookup-is d e f₁ n f₂ f₃ f₄ = let e₁ = rw (c, d) at e in let f = rw c at f₄ in rw (f, f₃, f₂, n, f₁, ← e₁) refl
 
-    pub run-is : (b : Lent) {r : Run-result} → r ≡ run-gives (contents table arena k) b → {m₁ : List ℕ} →
-        m₁ ≡ answered (give (set m count-cell (r .answer .count)) counts-cells (r .answer .counts)) (r .answer .number) (r .contents .terms)
-        (r .contents .used) →
+    pub whole-is : (b : Lent) {r : Run-result} → r ≡ run-gives (contents table arena k) b → {m₁ : List ℕ} →
+        m₁ ≡ answered (counted m (r .answer .count) (r .answer .counts)) (r .answer .number) (r .contents .terms) (r .contents .used) →
         run-held (held m₁ (r .contents .table) (r .contents .arena)) (r .answer .store) (r .answer .findings) (r .answer .work) ≡
-        run-part (held m table arena) b
-    unfolding run-part
-    run-is b e f = let e₁ = rw c at e in rw (f, ← e₁) refl
+        whole-part (held m table arena) b
+    unfolding whole-part
+    whole-is b e f = let e₁ = rw c at e in rw (f, ← e₁) refl
+
+    pub turn-is : (call : ℕ) (b : Lent) {r : Turn-result} → r ≡ turn-gives (past (eqb call 6)) (contents table arena k) b →
+        {m₁ m₂ : List ℕ} → m₁ ≡ set m done-cell (r .answer .done) →
+        m₂ ≡ answered (counted m₁ (r .answer .run .count) (r .answer .run .counts)) (r .answer .run .number) (r .contents .terms)
+        (r .contents .used) →
+        run-held (held m₂ (r .contents .table) (r .contents .arena)) (r .answer .run .store) (r .answer .run .findings)
+        (r .answer .run .work) ≡
+        turn-part call (held m table arena) b
+    unfolding turn-part
+    turn-is call b e f g = let e₁ = rw c at e in rw (g, f, ← e₁) refl
 
     pub read-is : (file load : List ℕ) {r : Read-result} → r ≡ read-gives (contents table arena k) load file → {m₁ m₂ : List ℕ} →
         m₁ ≡ set m count-cell (r .answer .count) →
@@ -95,14 +106,34 @@ module _ (m table arena : List ℕ) where
     unfolding read-part
     read-is file load e f g = let e₁ = rw c at e in rw (g, f, ← e₁) refl
 
--- a run in parts of its buffers
-module _ (h : Held) where
+-- A CALL THAT IS LENT WHAT A RUN IS, by its number: a pass or an opening call
+module _ (call : ℕ) where
+  module _ (d : Dict) (b : Lent) {r : Turn-result} where
+    pub as-pass : call ≡ 6 → r ≡ pass-gives d b → r ≡ turn-gives (past (eqb call 6)) d b
+    as-pass z e = let q = eq-eqb call 6 z in rw q e
+
+    pub as-open : call ≢ 6 → r ≡ open-gives d b → r ≡ turn-gives (past (eqb call 6)) d b
+    as-open z e = let q = ne-eqb call 6 z in rw q e
+
+  -- a run or a call in turns
+  module _ (h : Held) (b : Lent) {r : Run-held} where
+    pub as-whole : call ≡ 3 → r ≡ whole-part h b → r ≡ run-part call h b
+    unfolding run-part
+    as-whole z e = let q = eq-eqb call 3 z in rw q e
+
+    pub as-turn : call ≢ 3 → r ≡ turn-part call h b → r ≡ run-part call h b
+    unfolding run-part
+    as-turn z e = let q = ne-eqb call 3 z in rw q e
+
+-- in parts of its buffers
+module _ (call : ℕ) (h : Held) where
   pub run-lent-is : (b : Lent) {l s f w : ℕ} → l ≡ length-at (h .memory) load-length-cell (length (b .load)) →
       s ≡ length-at (h .memory) store-length-cell (length (b .store)) →
       f ≡ length-at (h .memory) findings-length-cell (length (b .findings)) →
       w ≡ length-at (h .memory) work-length-cell (length (b .work)) → {r : Run-held} →
-      r ≡ run-part h (lent (take l (b .load)) (take s (b .store)) (take f (b .findings)) (take w (b .work))) →
-      run-held (r .held) (r .store ++ drop s (b .store)) (r .findings ++ drop f (b .findings)) (r .work ++ drop w (b .work)) ≡ run-lent h b
+      r ≡ run-part call h (lent (take l (b .load)) (take s (b .store)) (take f (b .findings)) (take w (b .work))) →
+      run-held (r .held) (r .store ++ drop s (b .store)) (r .findings ++ drop f (b .findings)) (r .work ++ drop w (b .work)) ≡
+      run-lent call h b
   unfolding run-lent
   run-lent-is b el es ef ew e = let e₁ = rw (el, es, ef, ew) at e in rw (es, ef, ew, ← e₁) refl
 
@@ -110,19 +141,20 @@ module _ (h : Held) where
   pub run-taken-is : (s f w : ℕ) {load store findings work : List ℕ} → load ≡ numbers-from (h .memory) load-cells load-room →
       store ≡ numbers-from (h .memory) store-cells s → findings ≡ numbers-from (h .memory) findings-cells f →
       work ≡ numbers-from (h .memory) work-cells w →
-      {r : Run-held} → r ≡ run-lent h (lent load store findings work) → r ≡ run-taken h s f w
+      {r : Run-held} → r ≡ run-lent call h (lent load store findings work) → r ≡ run-taken call h s f w
   unfolding run-taken
   run-taken-is s f w el es ef ew e = rw (el, es, ef, ew) at e
 
   -- and are given back
   pub run-made-is : {s f w : ℕ} → s ≡ store-room → f ≡ findings-room → w ≡ work-room → {r : Run-held} →
-      r ≡ run-taken h s f w → {m₁ m₂ m₃ : List ℕ} →
+      r ≡ run-taken call h s f w → {m₁ m₂ m₃ : List ℕ} →
       m₁ ≡ give (r .held .memory) store-cells (r .store) → m₂ ≡ give m₁ findings-cells (r .findings) → m₃ ≡ give m₂ work-cells (r .work) →
-      held m₃ (r .held .table) (r .held .arena) ≡ run-made h
+      held m₃ (r .held .table) (r .held .arena) ≡ run-made call h
   unfolding run-made
   run-made-is es ef ew e f₁ f₂ f₃ = let e₁ = rw (es, ef, ew) at e in rw (f₃, f₂, f₁, ← e₁) refl
 
-  -- a read in a part of its load
+-- a read in a part of its load
+module _ (h : Held) where
   pub read-lent-is : (file load : List ℕ) {f l : ℕ} → f ≡ length-at (h .memory) term-length-cell (length file) →
       l ≡ length-at (h .memory) load-length-cell (length load) → {r : Read-held} → r ≡ read-part h (take f file) (take l load) →
       read-held (r .held) (r .load ++ drop l load) ≡ read-lent h file load
@@ -154,35 +186,35 @@ module _ (call : ℕ) (h : Held) {r : Held} where
       on-lookup z e = let q₀ = ne-eqb call 0 n₀ in let q₁ = ne-eqb call 1 n₁ in let q = eq-eqb call 2 z in rw (q₀, q₁, q) e
 
       module _ (n₂ : call ≢ 2) where
-        pub on-run : call ≡ 3 → r ≡ run-made h → r ≡ made-on call h
+        pub on-read : call ≡ 4 → r ≡ read-made h → r ≡ made-on call h
         unfolding made-on
-        on-run z e =
+        on-read z e =
             let q₀ = ne-eqb call 0 n₀ in
             let q₁ = ne-eqb call 1 n₁ in
             let q₂ = ne-eqb call 2 n₂ in
-            let q = eq-eqb call 3 z in
+            let q = eq-eqb call 4 z in
             rw (q₀, q₁, q₂, q) e
 
-        module _ (n₃ : call ≢ 3) where
-          pub on-read : call ≡ 4 → r ≡ read-made h → r ≡ made-on call h
+        module _ (n₄ : call ≢ 4) where
+          pub on-run : call < 7 → r ≡ run-made call h → r ≡ made-on call h
           unfolding made-on
-          on-read z e =
+          on-run l e =
               let q₀ = ne-eqb call 0 n₀ in
               let q₁ = ne-eqb call 1 n₁ in
               let q₂ = ne-eqb call 2 n₂ in
-              let q₃ = ne-eqb call 3 n₃ in
-              let q = eq-eqb call 4 z in
-              rw (q₀, q₁, q₂, q₃, q) e
+              let q₄ = ne-eqb call 4 n₄ in
+              let q = lt-ltb call 7 l in
+              rw (q₀, q₁, q₂, q₄, q) e
 
-          pub on-none : call ≢ 4 → r ≡ h → r ≡ made-on call h
+          pub on-none : 7 ≤ call → r ≡ h → r ≡ made-on call h
           unfolding made-on
-          on-none z e =
+          on-none l e =
               let q₀ = ne-eqb call 0 n₀ in
               let q₁ = ne-eqb call 1 n₁ in
               let q₂ = ne-eqb call 2 n₂ in
-              let q₃ = ne-eqb call 3 n₃ in
-              let q = ne-eqb call 4 z in
-              rw (q₀, q₁, q₂, q₃, q) e
+              let q₄ = ne-eqb call 4 n₄ in
+              let q = le-ltb call 7 l in
+              rw (q₀, q₁, q₂, q₄, q) e
 
 -- on parts of table and arena
 pub made-lent-is : (call : ℕ) (h : Held) {t a : ℕ} → t ≡ length-at (h .memory) table-length-cell (length (h .table)) →

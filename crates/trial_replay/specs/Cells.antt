@@ -39,7 +39,7 @@ abbrev pub used-cell : ℕ
 used-cell = 10
 
 -- the results: the number, the id of a put, the kind and the length of the part of a lookup, the count of a run or a read, the
--- five counts of a run
+-- five counts of a run, whether a run in turns is done
 abbrev pub number-cell : ℕ
 number-cell = 11
 
@@ -57,6 +57,9 @@ count-cell = 15
 
 abbrev pub counts-cells : ℕ
 counts-cells = 16
+
+abbrev pub done-cell : ℕ
+done-cell = 21
 
 -- the first cell of each buffer
 abbrev pub table-cells : ℕ

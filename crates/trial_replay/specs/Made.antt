@@ -9,13 +9,14 @@ use Rattle.dictionary_layout.specs.Layout.{Dict, dict, span}
 use Rattle.dictionary_layout.specs.Calls.{start-gives, put-gives, lookup-gives}
 use Rattle.driver_refusals.specs.Lent.{Lent, lent}
 use Rattle.driver_run.specs.Run.{run-gives}
+use Rattle.driver_turns.specs.Turns.{turn-gives, past}
 use Rattle.ntriples.specs.Reading.{read-gives}
 use Rattle.trial_buffers.specs.Memory.{cell-from, length-at, given}
 use Rattle.trial_replay.specs.Cells.{table-length-cell, arena-length-cell, term-length-cell, load-length-cell, store-length-cell}
 use Rattle.trial_replay.specs.Cells.{findings-length-cell, work-length-cell, put-kind-cell, lookup-id-cell, terms-cell, used-cell}
-use Rattle.trial_replay.specs.Cells.{number-cell, id-cell, kind-cell, part-length-cell, count-cell, counts-cells, table-cells}
-use Rattle.trial_replay.specs.Cells.{arena-cells, term-cells, part-cells, store-cells, findings-cells, work-cells, load-cells}
-use Rattle.trial_replay.specs.Cells.{table-room, arena-room, term-room, store-room, findings-room, work-room, load-room}
+use Rattle.trial_replay.specs.Cells.{number-cell, id-cell, kind-cell, part-length-cell, count-cell, counts-cells, done-cell}
+use Rattle.trial_replay.specs.Cells.{table-cells, arena-cells, term-cells, part-cells, store-cells, findings-cells, work-cells}
+use Rattle.trial_replay.specs.Cells.{load-cells, table-room, arena-room, term-room, store-room, findings-room, work-room, load-room}
 
 -- n numbers from a cell on, and n bytes
 unfoldable pub numbers-from : List ℕ → ℕ → ℕ → List ℕ
@@ -72,7 +73,7 @@ lookup-made h =
     let m₁ = set (set m kind-cell (l .kind)) part-length-cell (narrowed (length (l .part))) in
     left (give m₁ part-cells (l .part)) (l .number) (dictionary h)
 
--- what a run leaves: the memory with the dictionary, and its store, findings and list work buffer
+-- what a run, an opening call or a pass leaves: the memory with the dictionary, and its store, findings and list work buffer
 pub record Run-held : Type 0 where
   pub held : Held
   pub store : List ℕ
@@ -82,36 +83,51 @@ pub record Run-held : Type 0 where
 abbrev pub run-held : Held → List ℕ → List ℕ → List ℕ → Run-held
 run-held h s f w = record { held = h; store = s; findings = f; work = w }
 
+-- the memory with the count and the five counts
+abbrev pub counted : List ℕ → ℕ → List ℕ → List ℕ
+counted m count counts = give (set m count-cell count) counts-cells counts
+
 -- RUN in the buffers that it is lent
-unfoldable pub run-part : Held → Lent → Run-held
-run-part h b =
+unfoldable pub whole-part : Held → Lent → Run-held
+whole-part h b =
     let r = run-gives (dictionary h) b in
     let a = r .answer in
-    let m = give (set (h .memory) count-cell (a .count)) counts-cells (a .counts) in
-    run-held (left m (a .number) (r .contents)) (a .store) (a .findings) (a .work)
+    run-held (left (counted (h .memory) (a .count) (a .counts)) (a .number) (r .contents)) (a .store) (a .findings) (a .work)
+
+-- PASS, call 6, or OPEN, in the buffers that it is lent
+unfoldable pub turn-part : ℕ → Held → Lent → Run-held
+turn-part call h b =
+    let r = turn-gives (past (eqb call 6)) (dictionary h) b in
+    let a = r .answer .run in
+    let m = set (h .memory) done-cell (r .answer .done) in
+    run-held (left (counted m (a .count) (a .counts)) (a .number) (r .contents)) (a .store) (a .findings) (a .work)
+
+-- the call with a number, 3, 5 or 6, in the buffers that it is lent
+unfoldable pub run-part : ℕ → Held → Lent → Run-held
+run-part call h b = if (eqb call 3) (λ _. whole-part h b) (λ _. turn-part call h b)
 
 -- as much of each buffer as the memory says, the rest of it as it was
-unfoldable pub run-lent : Held → Lent → Run-held
-run-lent h b =
+unfoldable pub run-lent : ℕ → Held → Lent → Run-held
+run-lent call h b =
     let m = h .memory in
     let s = length-at m store-length-cell (length (b .store)) in
     let f = length-at m findings-length-cell (length (b .findings)) in
     let w = length-at m work-length-cell (length (b .work)) in
     let l = take (length-at m load-length-cell (length (b .load))) (b .load) in
-    let r = run-part h (lent l (take s (b .store)) (take f (b .findings)) (take w (b .work))) in
+    let r = run-part call h (lent l (take s (b .store)) (take f (b .findings)) (take w (b .work))) in
     run-held (r .held) (r .store ++ drop s (b .store)) (r .findings ++ drop f (b .findings)) (r .work ++ drop w (b .work))
 
 -- buffers of so many numbers, taken from the cells
-unfoldable pub run-taken : Held → ℕ → ℕ → ℕ → Run-held
-run-taken h s f w =
+unfoldable pub run-taken : ℕ → Held → ℕ → ℕ → ℕ → Run-held
+run-taken call h s f w =
     let m = h .memory in
     let load = numbers-from m load-cells load-room in
-    run-lent h (lent load (numbers-from m store-cells s) (numbers-from m findings-cells f) (numbers-from m work-cells w))
+    run-lent call h (lent load (numbers-from m store-cells s) (numbers-from m findings-cells f) (numbers-from m work-cells w))
 
 -- and given back to them
-unfoldable pub run-made : Held → Held
-run-made h =
-    let r = run-taken h store-room findings-room work-room in
+unfoldable pub run-made : ℕ → Held → Held
+run-made call h =
+    let r = run-taken call h store-room findings-room work-room in
     let m = give (give (give (r .held .memory) store-cells (r .store)) findings-cells (r .findings)) work-cells (r .work) in
     held m (r .held .table) (r .held .arena)
 
@@ -145,7 +161,8 @@ read-made h =
     let r = read-lent h (bytes-from m term-cells term-room) (numbers-from m load-cells load-room) in
     held (give (r .held .memory) load-cells (r .load)) (r .held .table) (r .held .arena)
 
--- THE CALL with a number, on what it is lent: another number makes none
+-- THE CALL with a number, on what it is lent: 0 start, 1 put, 2 lookup, 4 read, and the others below 7, which are 3 run, 5 open and
+-- 6 pass; another number makes none
 unfoldable pub made-on : ℕ → Held → Held
 made-on call h =
     if (eqb call 0)
@@ -154,7 +171,7 @@ made-on call h =
     (λ _. put-made h (bytes-from (h .memory) term-cells term-room))
     (λ _. if (eqb call 2)
     (λ _. lookup-made h)
-    (λ _. if (eqb call 3) (λ _. run-made h) (λ _. if (eqb call 4) (λ _. read-made h) (λ _. h)))))
+    (λ _. if (eqb call 4) (λ _. read-made h) (λ _. if (ltb call 7) (λ _. run-made call h) (λ _. h)))))
 
 -- as much of table and arena as the memory says, the rest as it was
 unfoldable pub made-lent : ℕ → Held → Held

@@ -1,4 +1,5 @@
-// The five calls on a memory: each takes its arguments from the cells and leaves there what it gives and the buffers as they are after it.
+// The seven calls on a memory: each takes its arguments from the cells, and leaves there what it gives and the buffers as they are after
+// it.
 use common::Id;
 use dictionary_index::Counters;
 use dictionary_index::lookup;
@@ -7,6 +8,9 @@ use dictionary_index::start;
 use driver_read::read;
 use driver_run::RunAnswer;
 use driver_run::run;
+use driver_turns::TurnNext;
+use driver_turns::open;
+use driver_turns::pass;
 use trial_buffers::memory::cell;
 use trial_buffers::memory::give_bytes;
 use trial_buffers::memory::give_numbers;
@@ -15,12 +19,16 @@ use trial_buffers::memory::set_cell;
 use trial_buffers::memory::take_bytes;
 use trial_buffers::memory::take_numbers;
 ghost use mathlib.Core.Path.{_≡_};
-ghost use lib.ListN.{length, getD, set};
+ghost use lib.Dec.{eqb};
+ghost use lib.ListN.{length, getD};
+ghost use Rattle.dictionary_layout.specs.Values.{contents};
 ghost use Rattle.driver_refusals.specs.Lent.{lent};
-ghost use Rattle.trial_replay.specs.Cells.{terms-cell, used-cell, count-cell, counts-cells, term-cells, term-room};
-ghost use Rattle.trial_replay.specs.Made.{bytes-from, give, held, answered, start-made, put-made, narrowed, lookup-made};
-ghost use Rattle.trial_replay.specs.Made.{run-held, run-part, run-lent, run-taken, run-made, made-on, made-lent, made};
-ghost use Rattle.trial_replay.specs.Made.{read-held, read-part, read-lent, read-made};
+ghost use Rattle.driver_turns.specs.Turns.{turn-gives, past};
+ghost use Rattle.driver_turns.specs.Values.{turn-leaves};
+ghost use Rattle.trial_replay.specs.Cells.{terms-cell, used-cell, term-cells, term-room};
+ghost use Rattle.trial_replay.specs.Made.{bytes-from, held, answered, counted, start-made, put-made, narrowed, lookup-made};
+ghost use Rattle.trial_replay.specs.Made.{run-held, whole-part, turn-part, run-part, run-lent, run-taken, run-made};
+ghost use Rattle.trial_replay.specs.Made.{read-held, read-part, read-lent, read-made, made-on, made-lent, made};
 
 // Where each buffer begins.
 const TABLE: usize = 32;
@@ -88,6 +96,8 @@ const PART_LENGTH: usize = 14;
 const COUNT: usize = 15;
 
 const COUNTS: usize = 16;
+
+const DONE: usize = 21;
 
 fn counters_in(memory: &[u32]) -> Counters
     ensures { λ r. ⌜ r ≡ record { terms = getD (now (memory .entry)) terms-cell 0; used = getD (now (memory .entry)) used-cell 0 } ⌝ }
@@ -168,8 +178,7 @@ fn make_lookup(memory: &mut [u32], table: &[u32], arena: &[u8])
 
 fn answer_run(memory: &mut [u32], got: RunAnswer, counters: Counters)
     ensures { λ _. ⌜ now (memory .exit)
-        ≡ answered (give (set (now (memory .entry)) count-cell (got .count)) counts-cells (got .counts)) (got .number)
-        (counters .terms) (counters .used) ⌝ }
+        ≡ answered (counted (now (memory .entry)) (got .count) (got .counts)) (got .number) (counters .terms) (counters .used) ⌝ }
 {
     let counts = got.counts;
     set_cell(&mut *memory, COUNT, got.count);
@@ -177,7 +186,7 @@ fn answer_run(memory: &mut [u32], got: RunAnswer, counters: Counters)
     answer(memory, got.number, counters);
 }
 
-fn run_load(
+fn run_whole(
     memory: &mut [u32],
     table: &mut [u32],
     arena: &mut [u8],
@@ -188,7 +197,7 @@ fn run_load(
 )
     ensures { λ _. ⌜ run-held (held (now (memory .exit)) (now (table .exit)) (now (arena .exit))) (now (store .exit))
         (now (findings .exit)) (now (work .exit))
-        ≡ run-part (held (now (memory .entry)) (now (table .entry)) (now (arena .entry))) (lent (now (load .entry))
+        ≡ whole-part (held (now (memory .entry)) (now (table .entry)) (now (arena .entry))) (lent (now (load .entry))
         (now (store .entry)) (now (findings .entry)) (now (work .entry))) ⌝ }
 {
     let counters = counters_in(&*memory);
@@ -198,8 +207,30 @@ fn run_load(
     answer_run(memory, got, left);
 }
 
-// Lends a run as much of each buffer as the memory says.
-fn run_lent(
+// A pass for 6, an opening call for another number.
+fn turn(
+    call: u32,
+    table: &mut [u32],
+    arena: &mut [u8],
+    counters: Counters,
+    load: &[u32],
+    store: &mut [u32],
+    findings: &mut [u32],
+    work: &mut [u32],
+) -> TurnNext
+    ensures { λ r. ⌜ turn-leaves r (now (table .exit)) (now (arena .exit)) (lent (now (load .entry)) (now (store .exit))
+        (now (findings .exit)) (now (work .exit)))
+        ≡ turn-gives (past (eqb call 6)) (contents (now (table .entry)) (now (arena .entry)) counters) (lent (now (load .entry))
+        (now (store .entry)) (now (findings .entry)) (now (work .entry))) ⌝ }
+{
+    if call == 6 {
+        return pass(table, arena, counters, load, store, findings, work);
+    }
+    open(table, arena, counters, load, store, findings, work)
+}
+
+fn run_turn(
+    call: u32,
     memory: &mut [u32],
     table: &mut [u32],
     arena: &mut [u8],
@@ -210,7 +241,54 @@ fn run_lent(
 )
     ensures { λ _. ⌜ run-held (held (now (memory .exit)) (now (table .exit)) (now (arena .exit))) (now (store .exit))
         (now (findings .exit)) (now (work .exit))
-        ≡ run-lent (held (now (memory .entry)) (now (table .entry)) (now (arena .entry))) (lent (now (load .entry))
+        ≡ turn-part call (held (now (memory .entry)) (now (table .entry)) (now (arena .entry))) (lent (now (load .entry))
+        (now (store .entry)) (now (findings .entry)) (now (work .entry))) ⌝ }
+{
+    let counters = counters_in(&*memory);
+    let next = turn(call, table, arena, counters, load, store, findings, work);
+    let got = next.answer;
+    let left = next.counters;
+    set_cell(&mut *memory, DONE, got.done);
+    answer_run(memory, got.run, left);
+}
+
+// A run for 3, else a call in turns.
+fn run_load(
+    call: u32,
+    memory: &mut [u32],
+    table: &mut [u32],
+    arena: &mut [u8],
+    load: &[u32],
+    store: &mut [u32],
+    findings: &mut [u32],
+    work: &mut [u32],
+)
+    ensures { λ _. ⌜ run-held (held (now (memory .exit)) (now (table .exit)) (now (arena .exit))) (now (store .exit))
+        (now (findings .exit)) (now (work .exit))
+        ≡ run-part call (held (now (memory .entry)) (now (table .entry)) (now (arena .entry))) (lent (now (load .entry))
+        (now (store .entry)) (now (findings .entry)) (now (work .entry))) ⌝ }
+{
+    if call == 3 {
+        run_whole(memory, table, arena, load, store, findings, work);
+        return;
+    }
+    run_turn(call, memory, table, arena, load, store, findings, work);
+}
+
+// Lends the call as much of each buffer as the memory says.
+fn run_lent(
+    call: u32,
+    memory: &mut [u32],
+    table: &mut [u32],
+    arena: &mut [u8],
+    load: &[u32],
+    store: &mut [u32],
+    findings: &mut [u32],
+    work: &mut [u32],
+)
+    ensures { λ _. ⌜ run-held (held (now (memory .exit)) (now (table .exit)) (now (arena .exit))) (now (store .exit))
+        (now (findings .exit)) (now (work .exit))
+        ≡ run-lent call (held (now (memory .entry)) (now (table .entry)) (now (arena .entry))) (lent (now (load .entry))
         (now (store .entry)) (now (findings .entry)) (now (work .entry))) ⌝ }
 {
     let l = length_in(&*memory, LOAD_LENGTH, load.len());
@@ -218,6 +296,7 @@ fn run_lent(
     let f = length_in(&*memory, FINDINGS_LENGTH, findings.len());
     let w = length_in(&*memory, WORK_LENGTH, work.len());
     run_load(
+        call,
         memory,
         table,
         arena,
@@ -229,6 +308,7 @@ fn run_lent(
 }
 
 fn run_loaded(
+    call: u32,
     memory: &mut [u32],
     table: &mut [u32],
     arena: &mut [u8],
@@ -238,7 +318,7 @@ fn run_loaded(
 )
     ensures { λ _. ⌜ run-held (held (now (memory .exit)) (now (table .exit)) (now (arena .exit))) (now (store .exit))
         (now (findings .exit)) (now (work .exit))
-        ≡ run-taken (held (now (memory .entry)) (now (table .entry)) (now (arena .entry))) (length (now (store .entry)))
+        ≡ run-taken call (held (now (memory .entry)) (now (table .entry)) (now (arena .entry))) (length (now (store .entry)))
         (length (now (findings .entry))) (length (now (work .entry))) ⌝ }
 {
     let mut load = [0u32; LOAD_ROOM];
@@ -246,17 +326,18 @@ fn run_loaded(
     take_numbers(&*memory, STORE, &mut *store);
     take_numbers(&*memory, FINDINGS, &mut *findings);
     take_numbers(&*memory, WORK, &mut *work);
-    run_lent(memory, table, arena, &load, store, findings, work);
+    run_lent(call, memory, table, arena, &load, store, findings, work);
 }
 
-fn make_run(memory: &mut [u32], table: &mut [u32], arena: &mut [u8])
+fn make_run(call: u32, memory: &mut [u32], table: &mut [u32], arena: &mut [u8])
     ensures { λ _. ⌜ held (now (memory .exit)) (now (table .exit)) (now (arena .exit))
-        ≡ run-made (held (now (memory .entry)) (now (table .entry)) (now (arena .entry))) ⌝ }
+        ≡ run-made call (held (now (memory .entry)) (now (table .entry)) (now (arena .entry))) ⌝ }
 {
     let mut store = [0u32; STORE_ROOM];
     let mut findings = [0u32; FINDINGS_ROOM];
     let mut work = [0u32; WORK_ROOM];
     run_loaded(
+        call,
         &mut *memory,
         table,
         arena,
@@ -320,12 +401,12 @@ fn make_on(call: u32, memory: &mut [u32], table: &mut [u32], arena: &mut [u8])
         make_lookup(&mut *memory, &*table, &*arena);
         return;
     }
-    if call == 3 {
-        make_run(&mut *memory, &mut *table, &mut *arena);
+    if call == 4 {
+        make_read(&mut *memory, &mut *table, &mut *arena);
         return;
     }
-    if call == 4 {
-        make_read(memory, table, arena);
+    if call < 7 {
+        make_run(call, memory, table, arena);
     }
 }
 
@@ -339,7 +420,7 @@ fn make_lent(call: u32, memory: &mut [u32], table: &mut [u32], arena: &mut [u8])
     make_on(call, memory, &mut table[..t], &mut arena[..a]);
 }
 
-// Makes the call: 0 start, 1 put, 2 lookup, 3 run, 4 read; another number makes none.
+// Makes the call: 0 start, 1 put, 2 lookup, 3 run, 4 read, 5 open, 6 pass; another number makes none.
 pub fn make(call: u32, memory: &mut [u32])
     ensures { λ _. ⌜ now (memory .exit) ≡ made call (now (memory .entry)) ⌝ }
 {

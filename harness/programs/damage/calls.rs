@@ -1,6 +1,7 @@
 //! One call on lent bytes, performed by the port and by the model, and what it leaves.
 
 use model::bytes as ours;
+use model::turns::Turn;
 use model::STORE_WIDTH;
 use tablestork::port;
 
@@ -13,16 +14,19 @@ pub struct Dictionary {
     pub used: u32,
 }
 
+/// A pass has with it the kind of change that was made to its store.
 #[derive(Clone, PartialEq, Eq)]
 pub enum Call {
     Start,
     Put { kind: u32, bytes: Vec<u8> },
     Lookup { id: u32 },
     Run(Run),
+    Open(Run),
+    Pass(Run, Option<usize>),
     Read { file: Vec<u8>, load: Vec<u8> },
 }
 
-/// What a run is lent beside the dictionary.
+/// What a run, an opening call or a pass is lent beside the dictionary.
 #[derive(Clone, PartialEq, Eq)]
 pub struct Run {
     pub load: Vec<u8>,
@@ -45,10 +49,12 @@ pub enum By {
     Model,
 }
 
-pub const CALLS: [&str; 5] = ["start", "put", "lookup", "run", "read"];
+pub const CALLS: [&str; 7] = ["start", "put", "lookup", "run", "open", "pass", "read"];
 
-/// The place of a read there.
-pub const READ: usize = 4;
+/// The places there of an opening call, a pass and a read.
+pub const OPEN: usize = 4;
+pub const PASS: usize = 5;
+pub const READ: usize = 6;
 
 impl Call {
     /// The place of its name in `CALLS`.
@@ -58,7 +64,17 @@ impl Call {
             Call::Put { .. } => 1,
             Call::Lookup { .. } => 2,
             Call::Run(_) => 3,
+            Call::Open(_) => OPEN,
+            Call::Pass(..) => PASS,
             Call::Read { .. } => READ,
+        }
+    }
+
+    /// What a run, an opening call or a pass is lent.
+    pub fn lent(&self) -> Option<&Run> {
+        match self {
+            Call::Run(b) | Call::Open(b) | Call::Pass(b, _) => Some(b),
+            _ => None,
         }
     }
 }
@@ -70,7 +86,9 @@ pub fn perform(by: By, dictionary: &Dictionary, call: &Call) -> After {
         Call::Start => start(by, &mut d),
         Call::Put { kind, bytes } => put(by, &mut d, *kind, bytes),
         Call::Lookup { id } => lookup(by, &d, *id),
-        Call::Run(buffers) => run(by, &mut d, buffers),
+        Call::Run(b) => run(by, &mut d, b),
+        Call::Open(b) => turn(by, &mut d, b, port::open, ours::open),
+        Call::Pass(b, _) => turn(by, &mut d, b, port::pass, ours::pass),
         Call::Read { file, load } => read(by, &mut d, file, load),
     };
     After { result, dictionary: d, call }
@@ -109,6 +127,19 @@ fn run(by: By, d: &mut Dictionary, b: &mut Run) -> Vec<u64> {
         By::Model => ours::run(ours::Lent { table, arena, terms, used, load, store, findings, work }),
     };
     let mut result = vec![refusal.into(), triples.into()];
+    result.extend(counts.map(u64::from));
+    result
+}
+
+/// An opening call or a pass, as the port and as the model have it.
+fn turn(by: By, d: &mut Dictionary, b: &mut Run, port: fn(port::Lent) -> Turn, model: fn(ours::Lent) -> Turn) -> Vec<u64> {
+    let (table, arena, terms, used) = (&mut d.table, &mut d.arena, &mut d.terms, &mut d.used);
+    let (load, store, findings, work) = (&b.load, &mut b.store, &mut b.findings, &mut b.work);
+    let (refusal, triples, done, counts) = match by {
+        By::Port => port(port::Lent { table, arena, terms, used, load, store, findings, work }),
+        By::Model => model(ours::Lent { table, arena, terms, used, load, store, findings, work }),
+    };
+    let mut result = vec![refusal.into(), triples.into(), done.into()];
     result.extend(counts.map(u64::from));
     result
 }
@@ -161,7 +192,7 @@ pub fn difference(port: &After, model: &After) -> String {
     };
     buffer("table", &p.table, &m.table);
     buffer("arena", &p.arena, &m.arena);
-    if let (Call::Run(p), Call::Run(m)) = (&port.call, &model.call) {
+    if let (Some(p), Some(m)) = (port.call.lent(), model.call.lent()) {
         buffer("load", &p.load, &m.load);
         buffer("store", &p.store, &m.store);
         buffer("findings", &p.findings, &m.findings);
@@ -172,7 +203,7 @@ pub fn difference(port: &After, model: &After) -> String {
         buffer("file", p_file, file);
         text += &format!("  file: {}\n", shown(file));
     }
-    if let (Call::Run(p), Call::Run(m)) = (&port.call, &model.call) {
+    if let (Some(p), Some(m)) = (port.call.lent(), model.call.lent()) {
         text += &first_row_apart(&p.store, &m.store);
     }
     text

@@ -1,9 +1,11 @@
 //! damage N [SEED]: N calls on valid and on damaged input, the port against the reference model, inside and outside demand 2's
 //! domain: every number of the result and every buffer, byte for byte. Exit status 1 where there is a difference.
 //!
-//! The calls come in scenarios of up to 20: a start, then puts, lookups, runs and reads, each lent the dictionary as the one
-//! before left it; a third of them are lent a damaged copy instead, and reads also the same terms with just the room that the
-//! file needs. `damage files` goes through all changes of one byte of a small file instead (every.rs). ITEM=K in the environment performs scenario K alone, and says what it does; FIRST=1 ends at the first difference.
+//! The calls come in scenarios of up to 20: a start, then puts, lookups, runs, opening calls, passes and reads, each lent the dictionary as
+//! the one before left it; a third of them are lent a damaged copy instead, and reads, opening calls and passes also the same terms with
+//! just the room that they need. Passes are lent stores that passes leave, and changed ones (stores.rs). `damage files` goes through all
+//! changes of one byte of a small file instead (every.rs), and `damage turns N [SEED]` through N runs in turns (sequences.rs). ITEM=K in
+//! the environment performs scenario K alone, and says what it does; FIRST=1 ends at the first difference.
 
 mod broken;
 mod calls;
@@ -12,10 +14,13 @@ mod files;
 mod lines;
 mod reads;
 mod scenario;
+mod sequences;
+mod stores;
 #[path = "../support.rs"]
 mod support;
+mod turns;
 
-use calls::{difference, perform, By, Call, Dictionary, CALLS, READ};
+use calls::{difference, perform, By, Call, Dictionary, Run, CALLS, OPEN, PASS, READ};
 use generate::Random;
 use std::sync::Mutex;
 
@@ -30,8 +35,10 @@ const ENOUGH: u64 = 20_000;
 /// The refusals are numbers below this.
 const NUMBERS: usize = 15;
 
-/// Those of a read.
+/// Those of a read, of an opening call and of a pass.
 const OF_A_READ: [usize; 7] = [1, 2, 3, 7, 11, 13, 14];
+const OF_AN_OPENING: [usize; 8] = [1, 2, 3, 4, 5, 6, 7, 8];
+const OF_A_PASS: [usize; 9] = [1, 2, 3, 4, 5, 6, 7, 8, 9];
 
 struct Tally {
     calls: u64,
@@ -39,6 +46,8 @@ struct Tally {
     met: [[u64; NUMBERS]; CALLS.len()],
     /// By kind of damage: refused as broken, and not.
     damaged: Vec<[u64; 2]>,
+    /// By kind of change to the store of a pass: refused with 4, with another number, and accepted.
+    changed: Vec<[u64; 3]>,
     differences: u64,
 }
 
@@ -46,13 +55,20 @@ impl Tally {
     fn count(&mut self, call: &Call, damage: Option<usize>, refusal: usize) {
         self.calls += 1;
         self.met[call.number()][refusal] += 1;
+        if let Call::Pass(_, Some(kind)) = call {
+            self.changed[*kind][[2, 1, 0][usize::from(refusal > 0) + usize::from(refusal == 4)]] += 1;
+        }
         if let (Some(kind), true) = (damage, call.number() > 0) {
             self.damaged[kind][usize::from(refusal != 1)] += 1;
         }
     }
 
     fn met_all(&self) -> bool {
-        (1..NUMBERS).all(|k| self.met.iter().any(|row| row[k] > 0)) && OF_A_READ.iter().all(|k| self.met[READ][*k] > 0)
+        let met = |call: usize, refusals: &[usize]| refusals.iter().all(|k| self.met[call][*k] > 0);
+        (1..NUMBERS).all(|k| self.met.iter().any(|row| row[k] > 0))
+            && met(READ, &OF_A_READ)
+            && met(OPEN, &OF_AN_OPENING)
+            && met(PASS, &OF_A_PASS)
     }
 }
 
@@ -60,11 +76,14 @@ fn main() {
     if std::env::args().nth(1).as_deref() == Some("files") {
         return every::main();
     }
+    if std::env::args().nth(1).as_deref() == Some("turns") {
+        return sequences::main();
+    }
     let (n, seed) = support::number_and_seed("damage");
     let only: Option<u64> = std::env::var("ITEM").ok().and_then(|k| k.parse().ok());
     let first = std::env::var_os("FIRST").is_some();
-    let damaged = vec![[0; 2]; broken::KINDS.len()];
-    let tally = Mutex::new(Tally { calls: 0, met: [[0; NUMBERS]; CALLS.len()], damaged, differences: 0 });
+    let (damaged, changed) = (vec![[0; 2]; broken::KINDS.len()], vec![[0; 3]; stores::CHANGES.len()]);
+    let tally = Mutex::new(Tally { calls: 0, met: [[0; NUMBERS]; CALLS.len()], damaged, changed, differences: 0 });
     support::in_parallel(u64::MAX, |item| {
         let ended = |t: &Tally| t.calls >= n || (first && t.differences > 0);
         if ended(&tally.lock().expect("the tally")) || (only.is_some() && item > 0) {
@@ -92,6 +111,10 @@ fn print(tally: &Tally) {
     for ((name, _), [broken, not]) in broken::KINDS.iter().zip(&tally.damaged) {
         println!("  {name}: {broken}, {not}");
     }
+    println!("changed stores of passes, refused with 4, with another number, and accepted:");
+    for ((name, _), [late, other, taken]) in stores::CHANGES.iter().zip(&tally.changed) {
+        println!("  {name}: {late}, {other}, {taken}");
+    }
 }
 
 /// One dictionary and the calls on it.
@@ -103,20 +126,20 @@ fn scenario_of(item: u64, seed: u64, n: u64, tell: bool, tally: &Mutex<Tally>) {
         (true, 0) => scenario::unstarted_at_the_limit(&mut r),
         (true, _) => scenario::full_at_the_limit(&mut r),
     };
+    let mut last: Option<Run> = None;
     for k in 0..CALLS_OF_A_SCENARIO {
-        let call = if k == 0 && !(limits && d.terms > 7) { Call::Start } else { scenario::call(&d, &mut r) };
+        let call = if k == 0 && !(limits && d.terms > 7) { Call::Start } else { scenario::call(&d, last.as_ref(), &mut r) };
         let damage = (k > 0 && r.percent(33)).then(|| r.below(broken::KINDS.len()));
-        let lent = match (damage, &call) {
-            (Some(kind), _) => Some(damaged(&d, kind, &mut r)),
-            (None, Call::Read { file, .. }) if !limits && r.percent(70) => reads::fitted(&d, file, &mut r),
-            (None, _) => None,
-        };
+        let lent = another(&d, &call, damage, limits, &mut r);
         if tell {
             println!("call {k}: {}", CALLS[call.number()]);
         }
         let [port, model] = [By::Port, By::Model].map(|by| perform(by, lent.as_ref().unwrap_or(&d), &call));
         if lent.is_none() {
             d = model.dictionary.clone();
+        }
+        if let (Call::Open(b) | Call::Pass(b, _), 0) = (&model.call, model.result[0]) {
+            last = Some(b.clone());
         }
         if call == Call::Start && model.result[0] != 0 && r.percent(80) {
             d = scenario::with_terms(&mut r);
@@ -132,6 +155,16 @@ fn scenario_of(item: u64, seed: u64, n: u64, tell: bool, tally: &Mutex<Tally>) {
             println!("difference in scenario {item} of seed {seed}, call {k}, {}{lent_how}", CALLS[call.number()]);
             print!("{}", difference(&port, &model));
         }
+    }
+}
+
+/// The dictionary that the call is lent in place of the scenario's own, where it is another.
+fn another(d: &Dictionary, call: &Call, damage: Option<usize>, limits: bool, r: &mut Random) -> Option<Dictionary> {
+    match (damage, call) {
+        (Some(kind), _) => Some(damaged(d, kind, r)),
+        (None, Call::Read { file, .. }) if !limits && r.percent(70) => reads::fitted(d, file, r),
+        (None, Call::Open(_) | Call::Pass(..)) if !limits && r.percent(25) => turns::fitted(d, r),
+        (None, _) => None,
     }
 }
 

@@ -2,6 +2,7 @@
 
 use crate::calls::{Call, Dictionary, Run};
 use crate::reads;
+use crate::turns;
 use generate::{names, small, Random, FIRST};
 use model::calls::starting_triples;
 use model::dictionary::{self as dict, Term};
@@ -81,12 +82,15 @@ pub fn laid_out(terms: &[Term], table: usize, arena: usize) -> Dictionary {
     }
 }
 
-pub fn call(d: &Dictionary, r: &mut Random) -> Call {
+/// A call on the dictionary; `last` is what the last opening call or pass that was accepted left.
+pub fn call(d: &Dictionary, last: Option<&Run>, r: &mut Random) -> Call {
     match r.below(100) {
         0..=1 => Call::Start,
-        2..=26 => put(d, r),
-        27..=33 => lookup(d, r),
-        34..=69 => Call::Run(run(d, r)),
+        2..=15 => put(d, r),
+        16..=19 => lookup(d, r),
+        20..=43 => Call::Run(run(d, r)),
+        44..=50 => Call::Open(turns::open(d, r)),
+        51..=69 => turns::pass(d, last, r),
         _ => reads::read(r),
     }
 }
@@ -146,21 +150,36 @@ fn load(terms: usize, r: &mut Random) -> Vec<Triple> {
 }
 
 /// A closure this large ends a run at the store.
-const MOST_CLOSED: usize = 600;
+pub const MOST_CLOSED: usize = 600;
 
-/// Buffers that just suffice, or are one off it.
-pub fn run(d: &Dictionary, r: &mut Random) -> Run {
-    let held = held(d);
-    let count = held.as_ref().map_or(d.terms.min(100) as usize, Vec::len);
+/// How many terms a dictionary holds, or would, and a load for them.
+pub fn loaded(d: &Dictionary, held: Option<&Vec<Term>>, r: &mut Random) -> (usize, Vec<Triple>) {
+    let count = held.map_or(d.terms.min(100) as usize, Vec::len);
     let mut load = load(count, r);
-    if r.percent(1) {
-        let many = LOAD_LIMIT + r.below(3) - 1;
+    if r.percent(2) {
+        let many = LOAD_LIMIT + r.below(4) - 1;
         load = (0..many).map(|k| *load.get(k % load.len().max(1)).unwrap_or(&[1, 1, 1])).collect();
     }
-    let (store, findings) = match &held {
-        Some(terms) if load.iter().flatten().all(|id| *id != 0 && (*id as usize) < count) => sizes(terms, &load),
-        _ => (r.below(20), r.below(3)),
+    (count, load)
+}
+
+/// Has the load no id 0, and none that is not known?
+pub fn is_known(load: &[Triple], count: usize) -> bool {
+    load.iter().flatten().all(|id| *id != 0 && (*id as usize) < count)
+}
+
+pub fn run(d: &Dictionary, r: &mut Random) -> Run {
+    let held = held(d);
+    let (count, load) = loaded(d, held.as_ref(), r);
+    let sizes = match &held {
+        Some(terms) if is_known(&load, count) => sizes(terms, &load),
+        _ => [r.below(20), r.below(3)],
     };
+    lent(&load, sizes, count, r)
+}
+
+/// Buffers that just suffice for so many rows, findings and terms, or are one off it.
+pub fn lent(load: &[Triple], [store, findings]: [usize; 2], count: usize, r: &mut Random) -> Run {
     let (store, findings) = (near(store, STORE_LIMIT, r), near(findings, FINDINGS_LIMIT, r));
     let work = match r.below(20) {
         0 => 2 * (count + 3) - 1,
@@ -190,13 +209,18 @@ fn store_length(rows: usize, r: &mut Random) -> usize {
     }
 }
 
-/// How many triples and findings the load comes to.
-fn sizes(terms: &[Term], load: &[Triple]) -> (usize, usize) {
+/// Those held, and a run's three.
+pub fn with_run_terms(terms: &[Term]) -> Vec<Term> {
     let mut all = terms.to_vec();
     all.extend(dict::run_terms().into_iter().filter(|t| !terms.contains(t)));
-    match model::closure::close(&starting_triples(&all, load), MOST_CLOSED, 0) {
-        Some(closure) => (closure.len(), model::closure::check(&closure).len()),
-        None => (MOST_CLOSED, 0),
+    all
+}
+
+/// How many triples and findings the load comes to.
+fn sizes(terms: &[Term], load: &[Triple]) -> [usize; 2] {
+    match model::closure::close(&starting_triples(&with_run_terms(terms), load), MOST_CLOSED, 0) {
+        Some(closure) => [closure.len(), model::closure::check(&closure).len()],
+        None => [MOST_CLOSED, 0],
     }
 }
 

@@ -161,6 +161,97 @@ pub fn refuse(text: &mut Text, lent: &Lent, number: u32, after: Counters) {
     }
 }
 
+/// An opening call or a pass that answers the number, the count, whether the run is done and the five counts, and leaves these counters.
+#[track_caller]
+fn turn(text: &mut Text, call: Call, [number, count, done]: [u32; 3], found: &[u32], after: Counters) {
+    text.call(call);
+    is_number(text, number);
+    assert_eq!(text.memory().0[COUNT], count, "the triple count");
+    assert_eq!(text.memory().0[DONE], done, "whether the run is done");
+    let mut counts = [0; 5];
+    found.chunks(5).for_each(|record| counts[record[0] as usize - 1] += 1);
+    assert_eq!(text.memory().0[COUNTS..COUNTS + 5], counts, "five counts");
+    counters(text, after);
+}
+
+/// Buffers for a run in turns, all marked.
+fn lend_turns(text: &mut Text, lent: &Lent) {
+    text.change(|m| {
+        m.lend(LOAD, lent.load);
+        m.lend(STORE, &vec![MARK; lent.store]);
+        m.lend(FINDINGS, &vec![MARK; lent.findings]);
+        m.lend(WORK, &vec![MARK; lent.work]);
+    });
+}
+
+/// The numbers of a buffer with the mark in each.
+fn mark(text: &mut Text, regions: &[Region]) {
+    text.change(|m| {
+        for r in regions {
+            let marks = vec![MARK; m.lent(*r).len()];
+            m.lend(*r, &marks);
+        }
+    });
+}
+
+/// An opening call that is accepted: the starting triples, then zeros; findings and list work buffer of zeros.
+#[track_caller]
+pub fn open(text: &mut Text, lent: &Lent, start: &[Row], after: Counters) {
+    lend_turns(text, lent);
+    turn(text, Call::Open, [0, start.len() as u32, 0], &[], after);
+    holds(text, STORE, start.as_flattened());
+    holds(text, FINDINGS, &[]);
+    holds(text, WORK, &[]);
+}
+
+/// An opening call that is refused: by 1 to 7 the buffers stay as they are, by 8 they are all zero.
+#[track_caller]
+pub fn open_none(text: &mut Text, lent: &Lent, number: u32, after: Counters) {
+    lend_turns(text, lent);
+    turn(text, Call::Open, [number, 0, 0], &[], after);
+    let left = if number < 8 { MARK } else { 0 };
+    for r in [STORE, FINDINGS, WORK] {
+        assert!(text.memory().lent(r).iter().all(|n| *n == left), "a buffer of {left}");
+    }
+}
+
+/// A pass over the store as it is, whose findings and list work buffer are marked, that adds triples: these rows, then zeros.
+#[track_caller]
+pub fn pass_on(text: &mut Text, rows: &[Row], after: Counters) {
+    mark(text, &[FINDINGS, WORK]);
+    turn(text, Call::Pass, [0, rows.len() as u32, 0], &[], after);
+    holds(text, STORE, rows.as_flattened());
+    holds(text, FINDINGS, &[]);
+    holds(text, WORK, &[]);
+}
+
+/// The same for one that adds none, which ends the run: the answer and the findings.
+#[track_caller]
+pub fn pass_done(text: &mut Text, answer: &[Row], found: &[u32], after: Counters) {
+    mark(text, &[FINDINGS, WORK]);
+    turn(text, Call::Pass, [0, answer.len() as u32, 1], found, after);
+    holds(text, STORE, answer.as_flattened());
+    holds(text, FINDINGS, found);
+    holds(text, WORK, &[]);
+}
+
+/// A pass that is refused: by 1 to 7, 4 for the store among them, nothing changes; by 8 and 9 the buffers are all zero.
+#[track_caller]
+pub fn pass_none(text: &mut Text, number: u32, after: Counters) {
+    mark(text, &[FINDINGS, WORK]);
+    let before = text.memory().clone();
+    turn(text, Call::Pass, [number, 0, 0], &[], after);
+    for r in [STORE, FINDINGS, WORK] {
+        let now = text.memory().lent(r);
+        assert!(if number < 8 { now == before.lent(r) } else { now.iter().all(|n| *n == 0) }, "a buffer after {number}");
+    }
+    if number < 8 {
+        for r in [TABLE, ARENA] {
+            assert_eq!(before.lent(r), text.memory().lent(r), "the dictionary");
+        }
+    }
+}
+
 /// Numbers of the load behind what a read is lent: it has to leave them alone.
 const BEHIND: usize = 3;
 

@@ -13,12 +13,13 @@ mod models;
 mod recorded;
 mod tables;
 mod text;
+mod turns;
 mod w3c;
 
 use text::Text;
 
 /// The bytes that program trial_replay has room for.
-const ROOM: usize = 800_000;
+const ROOM: usize = 900_000;
 
 fn main() {
     let Some(folder) = std::env::args().nth(1) else {
@@ -32,12 +33,14 @@ fn main() {
     damage::lists(&mut text);
     lists::lists(&mut text);
     batches::lists(&mut text);
+    turns::lists(&mut text);
     files::lists(&mut text);
     w3c::tests(&mut text);
     let before = models::prepare(&mut text);
     models::models(&mut text, "models after the tables of OWL 2 Profiles, and lists", &cases, &before);
     models::models(&mut text, "random models inside the domain, by the original", &inside, &before);
     models::models(&mut text, "random models outside it, by the reference model", &outside, &before);
+    models::in_turns(&mut text, "turns: models, pass by pass", &[&cases[..], &inside, &outside]);
     let (lines, printed) = text.done();
     println!("{} bytes", lines.len());
     assert!(lines.len() <= ROOM, "the text does not fit");

@@ -1,6 +1,7 @@
-//! The memory that the text's calls read and write, and the five calls on it, made by the reference model.
+//! The memory that the text's calls read and write, and the seven calls on it, made by the reference model.
 
 use model::calls::{self, Buffers, Dictionary};
+use model::turns::{self, Turn};
 
 /// Registers; the lengths of the lent parts are named by their regions.
 pub const KIND: usize = 7;
@@ -13,6 +14,7 @@ pub const FOUND_KIND: usize = 13;
 const PART_LENGTH: usize = 14;
 pub const COUNT: usize = 15;
 pub const COUNTS: usize = 16;
+pub const DONE: usize = 21;
 
 /// Cells from `first` on, of which a call is lent as many as a register says.
 #[derive(Clone, Copy)]
@@ -89,6 +91,8 @@ pub enum Call {
     Lookup,
     Run,
     Read,
+    Open,
+    Pass,
 }
 
 /// The dictionary that a call is lent.
@@ -121,6 +125,8 @@ pub fn perform(call: Call, m: &mut Memory) {
             m.lend_bytes(PART, &held.arena[begin..begin + length]);
         }
         Call::Run => run(held.lend(), m),
+        Call::Open => turn(turns::open, held.lend(), m),
+        Call::Pass => turn(turns::pass, held.lend(), m),
         Call::Read => {
             let (file, mut load) = (m.lent_bytes(TERM), m.lent(LOAD).to_vec());
             (m.0[NUMBER], m.0[COUNT]) = calls::read(held.lend(), &file, &mut load);
@@ -133,13 +139,25 @@ pub fn perform(call: Call, m: &mut Memory) {
 }
 
 fn run(d: Dictionary, m: &mut Memory) {
-    let load = m.lent(LOAD).to_vec();
-    let [mut store, mut findings, mut work] = [STORE, FINDINGS, WORK].map(|r| m.lent(r).to_vec());
-    let lent = Buffers { store: &mut store, findings: &mut findings, work: &mut work };
-    let (number, count, counts) = calls::run(d, &load, lent);
+    let (number, count, counts) = on_buffers(m, |load, b| calls::run(d, load, b));
     (m.0[NUMBER], m.0[COUNT]) = (number, count);
     m.0[COUNTS..COUNTS + 5].copy_from_slice(&counts);
+}
+
+/// An opening call or a pass.
+fn turn(call: fn(Dictionary, &[u32], Buffers) -> Turn, d: Dictionary, m: &mut Memory) {
+    let (number, count, done, counts) = on_buffers(m, |load, b| call(d, load, b));
+    (m.0[NUMBER], m.0[COUNT], m.0[DONE]) = (number, count, done);
+    m.0[COUNTS..COUNTS + 5].copy_from_slice(&counts);
+}
+
+/// A call on the load and the buffers that are lent beside the dictionary, which are then as it leaves them.
+fn on_buffers<R>(m: &mut Memory, call: impl FnOnce(&[u32], Buffers) -> R) -> R {
+    let load = m.lent(LOAD).to_vec();
+    let [mut store, mut findings, mut work] = [STORE, FINDINGS, WORK].map(|r| m.lent(r).to_vec());
+    let result = call(&load, Buffers { store: &mut store, findings: &mut findings, work: &mut work });
     m.lend(STORE, &store);
     m.lend(FINDINGS, &findings);
     m.lend(WORK, &work);
+    result
 }

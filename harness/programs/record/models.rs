@@ -1,6 +1,6 @@
 //! The recorded models as calls: each is run three times on a dictionary of sixteen named nodes and its further terms.
 
-use crate::calls::{accept, begin, put_new, refuse, rows, Lent, Row};
+use crate::calls::{accept, begin, open, pass_done, pass_none, pass_on, put_new, refuse, rows, Lent, Row};
 use crate::lists::EMPTY;
 use crate::memory::{ARENA, FINDINGS, STORE, TABLE, TERMS, USED};
 use crate::recorded::{Recorded, PLAIN};
@@ -81,6 +81,49 @@ fn three_runs(text: &mut Text, r: &Recorded, k: usize) {
     if records > 0 {
         refuse(text, &lent(triples, records - 1, known), 9, after);
     }
+}
+
+/// Of the models without further terms in each list, those of more than two passes and the first of the others are closed in turns.
+pub fn in_turns(text: &mut Text, name: &str, lists: &[&[Recorded]]) {
+    for list in lists {
+        let plain = list.iter().filter(|r| r.model.terms.len() == PLAIN && r.closure.len() <= IN_TURNS);
+        let last = |r: &&&Recorded| r.closure_rows.iter().map(|row| row.pass).max() > Some(2);
+        let (long, short): (Vec<_>, Vec<_>) = plain.partition(|r| last(&r));
+        for (k, recorded) in long.iter().take(LONG).chain(short.iter().take(SHORT)).enumerate() {
+            text.restore();
+            pass_by_pass(text, recorded, k);
+        }
+    }
+    text.end(name);
+}
+
+/// Models of each list that are closed in turns, and the most triples of their closures.
+const LONG: usize = 12;
+const SHORT: usize = 6;
+const IN_TURNS: usize = 60;
+
+/// The rows of the closure up to each pass, then the answer and the findings; every third is refused with 8 or 9 at its end.
+fn pass_by_pass(text: &mut Text, r: &Recorded, k: usize) {
+    let load: Vec<u32> = r.model.load.concat();
+    let up_to = |pass: u32| -> Vec<Row> { r.closure_rows.iter().filter(|row| row.pass <= pass).map(Record::numbers).collect() };
+    let last = r.closure_rows.iter().map(|row| row.pass).max().expect("a row");
+    let (less_rows, less_findings) = (k % 6 == 2, k % 6 == 5 && !r.findings.is_empty());
+    let store = rows(r.closure.len() - usize::from(less_rows));
+    let findings = 5 * (r.findings.len() - usize::from(less_findings));
+    let lent = Lent { load: &load, store, findings, work: 2 * (RUN[0] as usize + 3) };
+    open(text, &lent, &up_to(0), RUN);
+    for pass in 1..=last {
+        if less_rows && pass == last {
+            return pass_none(text, 8, RUN);
+        }
+        pass_on(text, &up_to(pass), RUN);
+    }
+    if less_findings {
+        return pass_none(text, 9, RUN);
+    }
+    let answer: Vec<Row> = r.rows.iter().map(Record::numbers).collect();
+    pass_done(text, &answer, &r.findings.concat(), RUN);
+    expect_wrong(text, answer.as_flattened().len(), 5 * r.findings.len(), k);
 }
 
 /// One number of the answer, a pass or a rule among them, or of the findings is expected wrong, at another place for each model.

@@ -36,8 +36,9 @@ pub struct Recorded {
     pub model: Model,
     pub closure: Vec<Triple>,
     pub answer: Vec<Triple>,
-    /// The answer with passes and rules, by the reference model.
+    /// The answer with passes and rules, by the reference model, and the closure.
     pub rows: Vec<Record>,
+    pub closure_rows: Vec<Record>,
     pub findings: Vec<Finding>,
 }
 
@@ -56,10 +57,11 @@ fn record(model: Model) -> Recorded {
 /// What the reference model gives under all rules but those of `without`.
 fn by_the_model(model: Model, without: u32) -> Recorded {
     let mistake = Mistake { without, ..Mistake::default() };
-    let rows = close_mistaken(&model.start(), model::STORE_LIMIT, mistake).expect("a small closure");
-    let (closure, rows) = (triples(&rows), rows::answer(&rows));
+    let closure_rows = close_mistaken(&model.start(), model::STORE_LIMIT, mistake).expect("a small closure");
+    let (closure, rows) = (triples(&closure_rows), rows::answer(&closure_rows));
     let findings = check(&closure).into_iter().collect();
-    Recorded { by_original: in_domain(&model.load, &closure), model, closure, answer: triples(&rows), rows, findings }
+    let (by_original, answer) = (in_domain(&model.load, &closure), triples(&rows));
+    Recorded { by_original, model, closure, answer, rows, closure_rows, findings }
 }
 
 /// The terms of a case: its variables urn:t1 and so on, then those of the rdf namespace, then a run's.

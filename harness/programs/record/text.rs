@@ -25,7 +25,7 @@ enum Piece {
 const LINE: usize = 9;
 
 /// The number in a call's place with which none is made.
-const NO_CALL: usize = 5;
+const NO_CALL: usize = 7;
 
 impl Text {
     pub fn new() -> Text {

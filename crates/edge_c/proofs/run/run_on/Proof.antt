@@ -1,5 +1,5 @@
 -- `edge_c::run::run_on` meets its contract. Assumes nothing.
-use mathlib.Core.Path.{_∙_}
+use mathlib.Core.Path.{refl, _∙_}
 use mathlib.Core.List.{List}
 use Prim.Native.Nat.{ℕ}
 use Rattle.dictionary_layout.specs.Layout.{Dict}
@@ -38,7 +38,7 @@ module _ (s : tie.After-run) where
   passed =
       let p = table-read .read-numbers in
       let q = load-read .read-numbers2 in
-      all-read (at-start .pre) (p .kept .1 .0) (p .ensures) (q .kept .1 .0) (q .ensures)
+      all-read (at-start .pre) (p .kept .1 .0) (p .ensures) (q .kept .1 .0) (q .ensures) refl
 
 -- the state at the end, and those before it: after the call of `write_all`, and, from its last argument, after the run
 abbrev after-write-all : tie.After-slice-known21 → tie.After-write-all

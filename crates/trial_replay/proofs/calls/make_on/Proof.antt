@@ -72,8 +72,8 @@ returns-3 c =
     on-lookup (args .call) (held (args .memory .now) (args .table .now) (args .arena .now)) (at-if1 .if1 .left)
     (at-if2 .if2 .left) (at-if3 .if3 .taken) (after-make-lookup .make-lookup .ensures)
 
-make-run-requires : tie.Need-make-run-requires
-make-run-requires c κs = search needs
+make-read-requires : tie.Need-make-read-requires
+make-read-requires c κs = search needs
 
 same-length-10 : tie.Need-same-length-10
 same-length-10 c = search needs
@@ -86,18 +86,18 @@ same-length-12 c = search needs
 
 returns-4 : tie.Need-returns-4
 returns-4 c =
-    let after-make-run = c .before .before .before .before .before .before in
-    let at-if4 = after-make-run .before .before .before .before in
+    let after-make-read = c .before .before .before .before .before .before in
+    let at-if4 = after-make-read .before .before .before .before in
     let at-if3 = at-if4 .before in
     let at-if2 = at-if3 .before in
     let at-if1 = at-if2 .before in
     let at-start = at-if1 .before .before .before .before in
     let args = at-start .args in
-    on-run (args .call) (held (args .memory .now) (args .table .now) (args .arena .now)) (at-if1 .if1 .left) (at-if2 .if2 .left)
-    (at-if3 .if3 .left) (at-if4 .if4 .taken) (after-make-run .make-run .ensures)
+    on-read (args .call) (held (args .memory .now) (args .table .now) (args .arena .now)) (at-if1 .if1 .left) (at-if2 .if2 .left)
+    (at-if3 .if3 .left) (at-if4 .if4 .taken) (after-make-read .make-read .ensures)
 
-make-read-requires : tie.Need-make-read-requires
-make-read-requires c κs = search needs
+make-run-requires : tie.Need-make-run-requires
+make-run-requires c κs = search needs
 
 same-length-13 : tie.Need-same-length-13
 same-length-13 c = search needs
@@ -110,16 +110,16 @@ same-length-15 c = search needs
 
 returns-5 : tie.Need-returns-5
 returns-5 c =
-    let after-make-read = c .before .before .before .before .before .before in
-    let at-if5 = after-make-read .before .before .before .before in
+    let after-make-run = c .before .before .before .before .before .before in
+    let at-if5 = after-make-run .before .before .before .before in
     let at-if4 = at-if5 .before in
     let at-if3 = at-if4 .before in
     let at-if2 = at-if3 .before in
     let at-if1 = at-if2 .before in
     let at-start = at-if1 .before .before .before .before in
     let args = at-start .args in
-    on-read (args .call) (held (args .memory .now) (args .table .now) (args .arena .now)) (at-if1 .if1 .left) (at-if2 .if2 .left)
-    (at-if3 .if3 .left) (at-if4 .if4 .left) (at-if5 .if5 .taken) (after-make-read .make-read .ensures)
+    on-run (args .call) (held (args .memory .now) (args .table .now) (args .arena .now)) (at-if1 .if1 .left) (at-if2 .if2 .left)
+    (at-if3 .if3 .left) (at-if4 .if4 .left) (at-if5 .if5 .taken) (after-make-run .make-run .ensures)
 
 returns-6 : tie.Need-returns-6
 returns-6 c =
@@ -150,12 +150,12 @@ make-on-spec =
     same-length-8
     same-length-9
     returns-3
-    make-run-requires
+    make-read-requires
     same-length-10
     same-length-11
     same-length-12
     returns-4
-    make-read-requires
+    make-run-requires
     same-length-13
     same-length-14
     same-length-15

@@ -56,7 +56,7 @@ returns c =
     .before .before in
     let at-start = after-run-loaded .before .before .before .before .before .before .before .before .before .before in
     let args = at-start .args in
-    run-made-is (held (args .memory .now) (args .table .now) (args .arena .now)) (length-replicate {A = ℕ} store-room 0)
+    run-made-is (args .call) (held (args .memory .now) (args .table .now) (args .arena .now)) (length-replicate {A = ℕ} store-room 0)
     (length-replicate {A = ℕ} findings-room 0) (length-replicate {A = ℕ} work-room 0) (after-run-loaded .run-loaded .ensures)
     (after-give-numbers .give-numbers .ensures) (after-give-numbers2 .give-numbers2 .ensures)
     (after-give-numbers3 .give-numbers3 .ensures)

@@ -72,7 +72,7 @@ returns c =
     let after-length-in = after-length-in2 .before .before in
     let at-start = after-length-in .before .before .before .before .before .before .before .before .before in
     let args = at-start .args in
-    run-lent-is (held (args .memory .now) (args .table .now) (args .arena .now))
+    run-lent-is (args .call) (held (args .memory .now) (args .table .now) (args .arena .now))
     (lent (args .load .now) (args .store .now) (args .findings .now) (args .work .now)) (after-length-in .length-in .ensures .0)
     (after-length-in2 .length-in2 .ensures .0) (after-length-in3 .length-in3 .ensures .0)
     (after-length-in4 .length-in4 .ensures .0) (after-run-load .run-load .ensures)

@@ -61,7 +61,7 @@ returns c =
     let at-start = after-take-numbers .before .before .before .before .before .before .before .before .before in
     let args = at-start .args in
     let m = args .memory .now in
-    run-taken-is (held m (args .table .now) (args .arena .now)) _ _ _
+    run-taken-is (args .call) (held m (args .table .now) (args .arena .now)) _ _ _
     (numbers-taken m load-cells load-room (after-take-numbers .take-numbers .kept .1 .1 .0 ∙ length-replicate {A = ℕ} load-room 0)
     (after-take-numbers .take-numbers .ensures))
     (numbers-taken m store-cells _ (after-store .store .given) (after-take-numbers2 .take-numbers2 .ensures))

@@ -1,0 +1,4 @@
+pub mod Opening
+pub mod Passing
+pub mod Ending
+pub mod Taking

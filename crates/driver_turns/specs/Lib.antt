@@ -1,0 +1,4 @@
+pub mod Turns
+pub mod Values
+pub mod Admission
+pub mod Sequence

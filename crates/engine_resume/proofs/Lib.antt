@@ -1,0 +1,4 @@
+pub mod Storing
+pub mod Judging
+pub mod Entering
+pub mod Resuming

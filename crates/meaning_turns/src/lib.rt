@@ -1,0 +1,1 @@
+// The definitions of closing in turns and their theorems: no code.
