@@ -8,13 +8,15 @@
 //!   row NAME    rows are numbered, or a store is measured, as model::misnumberings has it by that name
 //!   turn NAME   opening calls and passes are made as model::misturns has it by that name
 //!   reader NAME files are read as model::misreadings has it by that name
+//!   writer NAME stores are written as model::miswritings has it by that name
 
-use model::bytes::{self, Lent, LentToRead};
+use model::bytes::{self, Lent, LentToRead, LentToWrite};
 use model::closure::Mistake;
 use model::misnumberings::MISNUMBERINGS;
 use model::misreadings::{Misreading, MISREADINGS};
 use model::mistakes;
 use model::misturns::{Misturn, MISTURNS};
+use model::miswritings::{Miswriting, MISWRITINGS};
 use model::rows::Rows;
 use model::turns::Turn;
 use std::slice::{from_raw_parts, from_raw_parts_mut};
@@ -24,6 +26,7 @@ use std::sync::OnceLock;
 struct Fault {
     mistake: Mistake,
     misreading: Option<Misreading>,
+    miswriting: Option<Miswriting>,
     check: u32,
     refusal: u32,
     dirty: bool,
@@ -49,6 +52,7 @@ fn fault() -> &'static Fault {
             "row" => by(Mistake { rows: misnumbering(name()), ..Mistake::default() }),
             "turn" => by(Mistake { turn: Some(misturn(name())), ..Mistake::default() }),
             "reader" => Fault { misreading: Some(misreading(name())), ..Fault::default() },
+            "writer" => Fault { miswriting: Some(miswriting(name())), ..Fault::default() },
             _ => panic!("no fault {text}"),
         }
     })
@@ -68,6 +72,10 @@ fn misturn(name: &str) -> Misturn {
 
 fn misreading(name: &str) -> Misreading {
     MISREADINGS.iter().find(|(n, _)| *n == name).unwrap_or_else(|| panic!("no misreading {name}")).1
+}
+
+fn miswriting(name: &str) -> Miswriting {
+    MISWRITINGS.iter().find(|(n, _)| *n == name).unwrap_or_else(|| panic!("no miswriting {name}")).1
 }
 
 fn answered(refusal: u32) -> u32 {
@@ -279,6 +287,38 @@ pub unsafe extern "C" fn tablestork_read(
     };
     let refusal;
     (refusal, *triples) = bytes::read_mistaken(lent, fault().misreading);
+    answered(refusal)
+}
+
+/// # Safety
+/// As for `tablestork_start`.
+#[no_mangle]
+pub unsafe extern "C" fn tablestork_write(
+    table: *const u8,
+    table_len: usize,
+    arena: *const u8,
+    arena_len: usize,
+    terms: u32,
+    used: u32,
+    store: *const u8,
+    store_len: usize,
+    triples: u32,
+    page: *mut u8,
+    page_len: usize,
+    length: *mut u64,
+    left: *mut u32,
+) -> u32 {
+    let lent = LentToWrite {
+        table: from_raw_parts(table, table_len),
+        arena: from_raw_parts(arena, arena_len),
+        terms,
+        used,
+        store: from_raw_parts(store, store_len),
+        triples,
+        page: from_raw_parts_mut(page, page_len),
+    };
+    let refusal;
+    (refusal, *length, *left) = bytes::write_mistaken(lent, fault().miswriting);
     answered(refusal)
 }
 

@@ -1,13 +1,14 @@
-/* Tablestork, from C: start, put, lookup, run, open, pass and read over buffers of bytes.
+/* Tablestork, from C: start, put, lookup, run, open, pass, read and write over buffers of bytes.
  *
  * The library is what `rt staticlib edge_c` makes. Each function takes every input, ends, and is proved to give what crates/edge_c/specs
  * say. Numbers in the table, the load, the store, the findings and the list work buffer are little-endian, four bytes each; a length is
  * in bytes. The buffers of one call must not overlap, and no pointer may be null; a length may be 0.
  *
  * Each function returns 0, or the number of a refusal; every other number of its result is then 0. Refusals other than 8 and 9 change no
- * buffer, but that a read which answers 3, 7, 11, 13 or 14 makes its load zero. Numbers that a function writes it writes always.
+ * buffer, but that a read which answers 3, 7, 11, 13 or 14 makes its load zero, and a write which answers 15 its page. Numbers that a
+ * function writes it writes always.
  *
- * A run, an open and a pass need a stack of 11 MB each, a read 4 MB, the others 2 MB. */
+ * A run, an open and a pass need a stack of 11 MB each, a read and a write 4 MB, the others 2 MB. */
 #ifndef TABLESTORK_H
 #define TABLESTORK_H
 
@@ -23,9 +24,10 @@ extern "C" {
 #define TABLESTORK_RAGGED_LOAD 2       /* not whole triples */
 #define TABLESTORK_LOAD_TOO_LONG 3     /* over 16,384 triples; in a read also more than its load has room for */
 #define TABLESTORK_ILL_SIZED_STORE 4   /* a buffer of another length than the call takes; of a store, not whole rows of 20 bytes. In a
-                                          pass, after 7, also a store that it does not take (see tablestork_pass) */
+                                          pass, after 7, also a store that it does not take (see tablestork_pass); in a write also
+                                          a triple count above the store's rows */
 #define TABLESTORK_BLANK_ID 5          /* an id 0 in the load */
-#define TABLESTORK_UNKNOWN_TERM 6      /* an id in the load that is not below the term count */
+#define TABLESTORK_UNKNOWN_TERM 6      /* an id in the load, or in a row that a write is to write, that is not below the term count */
 #define TABLESTORK_DICTIONARY_FULL 7   /* entries or arena bytes do not suffice */
 #define TABLESTORK_STORE_FULL 8        /* the closure, or what an open or a pass leaves, has more triples than the store has rows; store,
                                           findings and work are zero */
@@ -35,6 +37,7 @@ extern "C" {
 #define TABLESTORK_NO_SUCH_ID 12       /* not below the term count */
 #define TABLESTORK_BAD_LINE 13         /* a line that the grammar, UTF-8, an escape or an IRI makes no N-Triples */
 #define TABLESTORK_LONG_LINE 14        /* a line of over 32,768 bytes without its end */
+#define TABLESTORK_PAGE_FULL 15        /* the text is longer than the lent bytes, which are then all zero */
 
 /* The kinds of a term. */
 #define TABLESTORK_NAMED_NODE 1
@@ -91,6 +94,15 @@ uint32_t tablestork_pass(uint8_t *table, size_t table_len, uint8_t *arena, size_
  * by line, 14, 13, 11, 7, 3. */
 uint32_t tablestork_read(uint8_t *table, size_t table_len, uint8_t *arena, size_t arena_len, uint32_t *terms, uint32_t *used,
                          const uint8_t *file, size_t file_len, uint8_t *load, size_t load_len, uint32_t *triples);
+
+/* Writes the triples of the first rows of a store, so many as `triples` says, as canonical RDF 1.1 N-Triples: the lines in the order of
+ * the rows, each ended by one line feed, then zeros to the end of the page. A triple is left out where its subject is a literal, its
+ * predicate no named node, or one of its terms such as no line of N-Triples gives. The text's length in bytes and the number of triples
+ * left out are written. Dictionary and store are lent to be read. Refusals 1, 4, also for more triples than the store has rows, and 6, for
+ * an id in those rows, change nothing; then 15 leaves the page all zero. */
+uint32_t tablestork_write(const uint8_t *table, size_t table_len, const uint8_t *arena, size_t arena_len, uint32_t terms, uint32_t used,
+                          const uint8_t *store, size_t store_len, uint32_t triples, uint8_t *page, size_t page_len, uint64_t *length,
+                          uint32_t *left);
 
 #ifdef __cplusplus
 }

@@ -7,6 +7,7 @@ mod recipes;
 pub mod small;
 #[cfg(test)]
 mod tests;
+pub mod texts;
 
 use model::dictionary::{id_of, Term, NAMED_NODE};
 use model::Triple;

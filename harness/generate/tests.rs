@@ -3,6 +3,7 @@
 use crate::files::{benchmark_file, file, BENCHMARK_TERMS, BENCHMARK_TRIPLES};
 use crate::large::{benchmark, large, KINDS};
 use crate::small::small;
+use crate::texts;
 use crate::{word, Model, Random, FIRST};
 use model::closure::{check, close, close_mistaken, close_rows, in_domain, Mistake};
 use model::dictionary::{bytes_of, is_container_property, starting_terms, Term};
@@ -13,6 +14,7 @@ use model::reading::Reading;
 use model::rounds::{pass_of_a_store, rounds};
 use model::rows::{self, triples, Record};
 use model::turns::{opening_rows, pass_rows};
+use model::writing;
 use model::{Triple, ARENA_LIMIT, ENTRIES_LIMIT, LINE_LIMIT, LOAD_LIMIT, STORE_LIMIT, TERM_LIMIT};
 
 const MODELS: u64 = 1_500;
@@ -320,4 +322,38 @@ fn the_benchmark_file_fits_a_dictionary() {
     assert_eq!((reading.triples.len(), reading.terms.len()), (BENCHMARK_TRIPLES, BENCHMARK_TERMS));
     assert!(bytes_of(&starting_terms()) + bytes_of(&reading.terms) <= ARENA_LIMIT);
     assert!((1..=3).all(|kind| reading.terms.iter().filter(|term| term.0 == kind).count() >= 5_000));
+}
+
+/// What is written of random models has each escape and each kind of term, and nothing that other readers take otherwise.
+#[test]
+fn texts_to_be_written() {
+    let marks = ["\\\"", "\\\\", "\\n", "\\r", "\t", "\u{7f}", "\" .\n", "\"@", "\"^^<", "_:", "<urn:_>", "\u{1f600}"];
+    let (mut met, mut left_out) = ([0; 12], 0);
+    for k in 0..500 {
+        let (terms, triples) = texts::model(&mut Random::item(3, k));
+        for [s, p, o] in triples.iter().map(|triple| triple.map(|id| &terms[id as usize])) {
+            let Some(line) = writing::line([s, p, o]) else {
+                left_out += 1;
+                continue;
+            };
+            marks.iter().zip(&mut met).for_each(|(mark, n)| *n += u32::from(line.contains(mark)));
+            assert!([s, p, o].into_iter().all(is_read_alike), "{line}");
+        }
+    }
+    println!("lines with each of {marks:?}: {met:?}, left out: {left_out}");
+    assert!(met.iter().all(|n| *n >= 50) && left_out >= 500);
+}
+
+/// No U+0000 and no noncharacter in a text, no capital letter in a tag, no colon in a label, and a scheme before an IRI's colon.
+fn is_read_alike((kind, bytes): &Term) -> bool {
+    let text = std::str::from_utf8(bytes).expect("UTF-8");
+    let has_scheme = |iri: &str| iri.split(':').next().is_some_and(|s| !s.is_empty() && !s.contains(|c: char| "/?#".contains(c)));
+    let odd = |c: char| c == '\0' || u32::from(c) & 0xfffe == 0xfffe || ('\u{fdd0}'..='\u{fdef}').contains(&c);
+    match (*kind, text.rsplit_once('\0')) {
+        (1, _) => has_scheme(text),
+        (2, _) => !text.contains(':'),
+        (_, Some((text, more))) if more.contains(':') => !text.contains(odd) && has_scheme(more),
+        (_, Some((text, tag))) => !text.contains(odd) && !tag.contains(|c: char| c.is_ascii_uppercase()),
+        (_, None) => false,
+    }
 }

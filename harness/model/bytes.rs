@@ -1,17 +1,19 @@
-//! The C entry points, docs/REFERENCE.md, 9: the seven calls over byte slices, ids little-endian. A byte length that is no multiple of
+//! The C entry points, docs/REFERENCE.md, 9: the eight calls over byte slices, ids little-endian. A byte length that is no multiple of
 //! 4 is 2 for a load, 1 for a table after the start, else 4, each at its place in the order.
 
 use crate::calls::{self, Buffers, Dictionary};
 use crate::closure::Mistake;
 use crate::misreadings::Misreading;
+use crate::miswritings::Miswriting;
 use crate::turns::{self, Turn};
+use crate::writing;
 use crate::*;
 
 fn numbers(bytes: &[u8]) -> Vec<u32> {
     bytes.chunks_exact(4).map(|b| u32::from_le_bytes(b.try_into().expect("four bytes"))).collect()
 }
 
-fn write(bytes: &mut [u8], numbers: &[u32]) {
+fn lay(bytes: &mut [u8], numbers: &[u32]) {
     for (place, n) in bytes.chunks_exact_mut(4).zip(numbers) {
         place.copy_from_slice(&n.to_le_bytes());
     }
@@ -25,7 +27,7 @@ pub fn start(table: &mut [u8], arena: &mut [u8], terms: &mut u32, used: &mut u32
     }
     let mut words = numbers(table);
     let refusal = calls::start(Dictionary { table: &mut words, arena, terms, used });
-    write(table, &words);
+    lay(table, &words);
     refusal
 }
 
@@ -36,7 +38,7 @@ pub fn put(table: &mut [u8], arena: &mut [u8], terms: &mut u32, used: &mut u32, 
     }
     let mut words = numbers(table);
     let result = calls::put(Dictionary { table: &mut words, arena, terms, used }, kind, bytes);
-    write(table, &words);
+    lay(table, &words);
     result
 }
 
@@ -79,11 +81,43 @@ pub fn read_mistaken(lent: LentToRead, mistake: Option<Misreading>) -> (u32, u32
     }
     let d = Dictionary { table: &mut table, arena: lent.arena, terms: lent.terms, used: lent.used };
     let result = calls::read_mistaken(d, lent.file, &mut load, mistake);
-    write(lent.table, &table);
+    lay(lent.table, &table);
     if !ragged {
-        write(lent.load, &load);
+        lay(lent.load, &load);
     }
     result
+}
+
+/// What a write is lent, as bytes. It writes the page alone.
+pub struct LentToWrite<'a> {
+    pub table: &'a [u8],
+    pub arena: &'a [u8],
+    pub terms: u32,
+    pub used: u32,
+    pub store: &'a [u8],
+    pub triples: u32,
+    pub page: &'a mut [u8],
+}
+
+/// Refusal, the length of the text, and the number of triples left out.
+pub fn write(lent: LentToWrite) -> (u32, u64, u32) {
+    write_mistaken(lent, None)
+}
+
+/// The same with a mistake.
+pub fn write_mistaken(lent: LentToWrite, mistake: Option<Miswriting>) -> (u32, u64, u32) {
+    if lent.table.len() % 4 != 0 {
+        return (BROKEN_DICTIONARY, 0, 0);
+    }
+    let (mut table, mut arena, mut terms, mut used) = (numbers(lent.table), lent.arena.to_vec(), lent.terms, lent.used);
+    let mut store = numbers(lent.store);
+    // A ragged byte length becomes one number more than whole rows, which is refused at the same place.
+    if lent.store.len() % 4 != 0 {
+        store.resize(1, 0);
+    }
+    let d = Dictionary { table: &mut table, arena: &mut arena, terms: &mut terms, used: &mut used };
+    let (refusal, length, left_out) = writing::write_mistaken(d, &store, lent.triples, lent.page, mistake);
+    (refusal, length as u64, left_out)
 }
 
 /// What a run, an opening call or a pass is lent, as bytes.
@@ -148,9 +182,9 @@ fn on_numbers<R>(lent: Lent, call: impl FnOnce(Dictionary, &[u32], Buffers) -> R
     let d = Dictionary { table: &mut table, arena: lent.arena, terms: lent.terms, used: lent.used };
     let b = Buffers { store: &mut store, findings: &mut findings, work: &mut work };
     let result = call(d, &load, b);
-    write(lent.table, &table);
-    write(lent.store, &store);
-    write(lent.findings, &findings);
-    write(lent.work, &work);
+    lay(lent.table, &table);
+    lay(lent.store, &store);
+    lay(lent.findings, &findings);
+    lay(lent.work, &work);
     Some(result)
 }

@@ -1,5 +1,5 @@
 //! The calls on numbers, docs/REFERENCE.md, 3: result, refusals in their order, and every buffer after the call. Those that close in turns
-//! are in turns.rs.
+//! are in turns.rs, that which writes in writing.rs.
 
 use crate::closure::{check, close_mistaken, Mistake};
 use crate::dictionary::{self as dict, Term};

@@ -1,5 +1,5 @@
 //! The reference model: an independent model of what docs/REFERENCE.md says, written for comparison, and not from the port: the
-//! dictionary, the closure, N-Triples and the seven calls, each call's result and every buffer after it. It is plain rather than
+//! dictionary, the closure, N-Triples and the eight calls, each call's result and every buffer after it. It is plain rather than
 //! fast, and shares nothing with the port.
 
 pub mod bytes;
@@ -11,12 +11,14 @@ pub mod misnumberings;
 pub mod misreadings;
 pub mod mistakes;
 pub mod misturns;
+pub mod miswritings;
 pub mod names;
 pub mod ntriples;
 pub mod reading;
 pub mod rounds;
 pub mod rows;
 pub mod turns;
+pub mod writing;
 
 #[cfg(test)]
 mod read_tests;
@@ -24,6 +26,8 @@ mod read_tests;
 mod tests;
 #[cfg(test)]
 mod turn_tests;
+#[cfg(test)]
+mod write_tests;
 
 /// Subject, predicate, object.
 pub type Triple = [u32; 3];
@@ -45,6 +49,7 @@ pub const TERM_TOO_LONG: u32 = 11;
 pub const NO_SUCH_ID: u32 = 12;
 pub const BAD_LINE: u32 = 13;
 pub const LONG_LINE: u32 = 14;
+pub const PAGE_FULL: u32 = 15;
 
 /// Numbers of a load's triple, of a store's row and of a finding.
 pub const LOAD_WIDTH: usize = 3;

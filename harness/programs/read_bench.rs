@@ -5,10 +5,12 @@
 //! processes of their own, their starts included. Further lines have the times, that of the read alone too. Medians of RUNS runs
 //! each, alternating. The read has to give the reference model's triples and dictionary; exit status 1 where it gives others.
 
+mod processes;
+
 use generate::files::benchmark_file;
 use model::calls::{self, Dictionary as Lent};
 use model::{Triple, ARENA_LIMIT, ENTRIES_LIMIT, LOAD_LIMIT};
-use std::process::{Command, Stdio};
+use processes::{is_here, median, time};
 use std::time::{Duration, Instant};
 use tablestork::{Dictionary, Load};
 
@@ -79,32 +81,4 @@ fn read(text: &str) -> (Duration, Option<(Vec<Triple>, Dictionary)>) {
     let clock = Instant::now();
     let count = d.read_in(text.as_bytes(), &mut load);
     (clock.elapsed(), count.ok().map(|count| (load.triples(count), d)))
-}
-
-/// Whether the program is on the machine; says so where it is not.
-fn is_here(words: &[&str]) -> bool {
-    let here = command(words).status().is_ok();
-    if !here {
-        println!("{} is not on this machine", words[0]);
-    }
-    here
-}
-
-fn command(words: &[&str]) -> Command {
-    let mut command = Command::new(words[0]);
-    command.args(&words[1..]).stdin(Stdio::null()).stdout(Stdio::null()).stderr(Stdio::null());
-    command
-}
-
-fn time(words: &[&str]) -> Duration {
-    let clock = Instant::now();
-    let status = command(words).status();
-    let took = clock.elapsed();
-    assert!(status.is_ok_and(|s| s.success()), "{} fails", words[0]);
-    took
-}
-
-fn median(times: &mut [Duration]) -> Duration {
-    times.sort_unstable();
-    times[times.len() / 2]
 }

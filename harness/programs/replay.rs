@@ -3,6 +3,7 @@
 
 use model::calls::{lookup, put, read, run, start, Buffers, Dictionary};
 use model::turns::{open, pass};
+use model::writing::write;
 
 const SIZE: usize = 70_112;
 /// The cells before the load.
@@ -13,6 +14,8 @@ const SAVED: usize = 20_952;
 const LENT: [[usize; 2]; 7] =
     [[32, 320], [352, 9_600], [9_952, 4_100], [20_952, 49_160], [18_152, 2_100], [20_252, 500], [20_752, 200]];
 const PART: usize = 14_052;
+/// The page of a write is in the cells of a part.
+const PAGE_ROOM: usize = 4_100;
 
 struct Program {
     memory: Vec<u32>,
@@ -85,11 +88,11 @@ impl Program {
 
     fn call(&mut self, call: u32, differ: bool) -> Option<()> {
         match call {
-            0..=6 => perform(call, &mut self.memory)?,
-            7 => {}
+            0..=7 => perform(call, &mut self.memory)?,
+            8 => {}
             _ => return None,
         }
-        self.calls += u32::from(call < 7);
+        self.calls += u32::from(call < 8);
         self.differences += u32::from((self.memory != self.expected) != differ);
         Some(())
     }
@@ -120,6 +123,13 @@ fn perform(call: u32, m: &mut [u32]) -> Option<()> {
             m[16..21].copy_from_slice(&counts);
         }
         4 => (m[11], m[15]) = read(d, &term, load),
+        7 => {
+            let length = Some(m[22] as usize).filter(|n| *n <= PAGE_ROOM)?;
+            let mut page = bytes(&m[PART..PART + length])?;
+            let (number, length, left_out) = write(d, store, m[23], &mut page);
+            (m[11], m[24], m[25]) = (number, length as u32, left_out);
+            page.iter().enumerate().for_each(|(k, b)| m[PART + k] = u32::from(*b));
+        }
         _ => {
             let b = Buffers { store, findings, work };
             let (number, count, done, counts) = if call == 5 { open(d, load, b) } else { pass(d, load, b) };

@@ -1,5 +1,5 @@
-//! The port as a safe Rust crate: an owned dictionary, reads that hand back owned triples, and runs that hand back owned rows, all at once
-//! or in turns.
+//! The port as a safe Rust crate: an owned dictionary, reads that hand back owned triples, runs that hand back owned rows, all at once or
+//! in turns, and writes of rows as N-Triples.
 //!
 //! A call of the port needs some megabytes of stack for its tables; `with_stack` gives a thread enough.
 
@@ -10,6 +10,8 @@ mod turns;
 mod tests;
 #[cfg(test)]
 mod turn_tests;
+#[cfg(test)]
+mod write_tests;
 
 pub use turns::{Step, Turns};
 
@@ -60,10 +62,11 @@ pub enum Refusal {
     NoSuchId = 12,
     BadLine = 13,
     LongLine = 14,
+    PageFull = 15,
 }
 
 impl Refusal {
-    pub const ALL: [Refusal; 14] = [
+    pub const ALL: [Refusal; 15] = [
         Refusal::BrokenDictionary,
         Refusal::RaggedLoad,
         Refusal::LoadTooLong,
@@ -78,6 +81,7 @@ impl Refusal {
         Refusal::NoSuchId,
         Refusal::BadLine,
         Refusal::LongLine,
+        Refusal::PageFull,
     ];
 
     /// Nothing for 0; else the refusal of this number.
@@ -229,6 +233,43 @@ impl Dictionary {
         });
         Refusal::check(refusal).map(|()| count)
     }
+
+    /// Writes the triples of rows to the page as canonical N-Triples, in the order of the rows, and zeros behind them. Passes and rules do
+    /// not matter. A triple that no file can say is left out and counted: one with a literal as its subject, with a predicate that is no
+    /// named node, or with a term that no read puts.
+    ///
+    /// Refused are rows of ids that name no term, more rows than a store may have, and a text that is longer than the page, which then is
+    /// all zero. A read of the text gives the triples that were not left out, where there are no more than a load takes.
+    ///
+    /// ```ignore
+    /// let closed = dictionary.run(&load, 1_000, 100)?;
+    /// let mut page = vec![0; 1 << 20];
+    /// let written = dictionary.write(&closed.records, &mut page)?;
+    /// file.write_all(&page[..written.length])?;
+    /// ```
+    pub fn write(&self, records: &[Record], page: &mut [u8]) -> Result<Written, Refusal> {
+        self.write_store(&store_of(records), records.len() as u32, page)
+    }
+
+    /// The same for the first rows of a store, as a run, an opening call or a pass left it.
+    pub fn write_in(&self, b: &Buffers, triples: u32, page: &mut [u8]) -> Result<Written, Refusal> {
+        self.write_store(&b.store, triples, page)
+    }
+
+    fn write_store(&self, store: &[u8], triples: u32, page: &mut [u8]) -> Result<Written, Refusal> {
+        let (table, arena, terms, used) = (&self.table, &self.arena, self.terms, self.used);
+        let (refusal, length, left_out) = port::write(port::LentToWrite { table, arena, terms, used, store, triples, page });
+        Refusal::check(refusal).map(|()| Written { length: length as usize, left_out })
+    }
+}
+
+/// What an accepted write tells.
+#[derive(Clone, Copy, Debug, PartialEq, Eq)]
+pub struct Written {
+    /// The bytes of the page that are the text.
+    pub length: usize,
+    /// How many triples are not in it.
+    pub left_out: u32,
 }
 
 /// What a read writes its triples to, cleared.
@@ -287,11 +328,16 @@ impl Buffers {
         self.load = to_bytes(load.as_flattened());
     }
 
-    /// Another store, for the passes to come: rows, then zeros up to so many.
+    /// Another store, for the passes to come or a write: rows, then zeros up to so many.
     pub fn lend_store(&mut self, records: &[Record], rows: usize) {
-        self.store = to_bytes(&records.iter().flat_map(Record::numbers).collect::<Vec<_>>());
+        self.store = store_of(records);
         self.store.resize(RECORD_BYTES * rows.max(records.len()), 0);
     }
+}
+
+/// A store of just these rows.
+fn store_of(records: &[Record]) -> Vec<u8> {
+    to_bytes(&records.iter().flat_map(Record::numbers).collect::<Vec<_>>())
 }
 
 fn to_bytes(numbers: &[u32]) -> Vec<u8> {

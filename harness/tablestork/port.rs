@@ -108,6 +108,21 @@ extern "C" {
         load_len: usize,
         triples: *mut u32,
     ) -> u32;
+    fn tablestork_write(
+        table: *const u8,
+        table_len: usize,
+        arena: *const u8,
+        arena_len: usize,
+        terms: u32,
+        used: u32,
+        store: *const u8,
+        store_len: usize,
+        triples: u32,
+        page: *mut u8,
+        page_len: usize,
+        length: *mut u64,
+        left: *mut u32,
+    ) -> u32;
 }
 
 /// A number that no call gives back, to see that each result is written.
@@ -286,4 +301,38 @@ pub fn read(lent: LentToRead) -> (u32, u32) {
         )
     };
     (refusal, triples)
+}
+
+/// What a write is lent: it writes the page alone.
+pub struct LentToWrite<'a> {
+    pub table: &'a [u8],
+    pub arena: &'a [u8],
+    pub terms: u32,
+    pub used: u32,
+    pub store: &'a [u8],
+    pub triples: u32,
+    pub page: &'a mut [u8],
+}
+
+/// Refusal, the length of the text, and the number of triples left out.
+pub fn write(lent: LentToWrite) -> (u32, u64, u32) {
+    let (mut length, mut left) = (u64::from(UNWRITTEN), UNWRITTEN);
+    let refusal = unsafe {
+        tablestork_write(
+            lent.table.as_ptr(),
+            lent.table.len(),
+            lent.arena.as_ptr(),
+            lent.arena.len(),
+            lent.terms,
+            lent.used,
+            lent.store.as_ptr(),
+            lent.store.len(),
+            lent.triples,
+            lent.page.as_mut_ptr(),
+            lent.page.len(),
+            &mut length,
+            &mut left,
+        )
+    };
+    (refusal, length, left)
 }

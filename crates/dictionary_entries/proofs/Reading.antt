@@ -3,15 +3,16 @@ use mathlib.Core.Path.{_≡_, sym, _∙_, ap, subst}
 use mathlib.Core.List.{List, _∷_}
 use Prim.Native.Nat.{ℕ, suc, _+_, _*_, _≤_, _<_}
 use native.Mathlib.Omega.{arith}
-use lib.Dec.{T}
+use lib.Dec.{T, leb→le}
 use lib.ListN.{length, getD, take, drop, length-append}
 use lib.Seq.{split-at, getD-drop}
-use Rattle.common.specs.Sizes.{heads-width, entry-limit, table-limit, arena-limit}
+use Rattle.common.specs.Sizes.{heads-width, entry-limit, table-limit, arena-limit, term-limit}
 use Rattle.dictionary_layout.specs.Terms.{Term, term, no-term, start-terms, start-count}
 use Rattle.dictionary_layout.specs.Layout.{Dict, chain, size, layout, decode, entry-at}
 use Rattle.dictionary_layout.specs.Dictionary.{term-of, valid}
 use Rattle.dictionary_entries.specs.Entries.{start-of, length-of, kind-of, next-of, entry-term, Entry-fits}
 use Rattle.dictionary_layout.proofs.Decoding.{size-append}
+use Rattle.dictionary_layout.proofs.Distinct.{holds-well, at-in}
 use Rattle.dictionary_layout.proofs.Holding.{Holds, holds-fits, valid→, sized→}
 use Rattle.dictionary_layout.proofs.Chains.{prev, Entry, table-head, table-entry, arena-part}
 
@@ -117,3 +118,10 @@ module _ (d : Dict) (v : T (valid d)) where
         entry = omega (arith, lengths .entries);
         part = omega (arith, e .start, e .long, size-upto (decode d) k (omega (arith, count)), lengths .bytes, bytes-used);
       }
+
+  -- its bytes are no more than a term may have
+  pub term-short : (k : ℕ) → k < d .terms → length (term-of (decode d) k .bytes) ≤ term-limit
+  term-short k h =
+      let t = term-of (decode d) k in
+      let i = at-in (decode d) k (omega (arith, count)) in
+      leb→le (length (t .bytes)) term-limit (holds-well (length (d .table)) (length (d .arena)) (decode d) held t i .1)

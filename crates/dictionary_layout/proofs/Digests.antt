@@ -25,7 +25,7 @@ module _ {kind : ℕ} {bytes : List ℕ} where
   digest-start h = record { within = omega arith; small = omega arith; below = h; summed = refl; hashed = refl }
 
   pub digest-more : {total hash : ℕ} (i b : ℕ) → i < length bytes → b ≡ getD bytes i 0 → b < 256
-      → Digesting kind bytes total hash i → Digesting kind bytes (total + b) ((hash * 2654435761 + b) % 4294967296) (i + 1)
+      → Digesting kind bytes total hash i → Digesting kind bytes (total + b) ((hash + b) * 2654435761 % 4294967296) (i + 1)
   unfolding hash-from
   digest-more {total} {hash} i b h e l d = record {
     within = omega arith;
@@ -55,7 +55,7 @@ module _ {kind : ℕ} {bytes : List ℕ} where
 hash-below : (h : ℕ) (bytes : List ℕ) → h < 4294967296 → hash-from h bytes < 4294967296
 unfolding hash-from
 hash-below h [] l = l
-hash-below h (b ∷ bs) l = hash-below ((h * 2654435761 + b) % 4294967296) bs (omega arith)
+hash-below h (b ∷ bs) l = hash-below ((h + b) * 2654435761 % 4294967296) bs (omega arith)
 
 pub bucket-below : (t : Term) → t .kind < 4294967296 → bucket t < bucket-count
 bucket-below t h = let q = hash-below (t .kind) (t .bytes) h in omega arith

@@ -11,10 +11,11 @@ use Rattle.dictionary_layout.specs.Layout.{chain}
 abbrev pub bucket-count : ℕ
 bucket-count = 65536
 
--- the hash of bytes that follow what has the hash h
+-- the hash of bytes that follow what has the hash h. The product comes last, so that the last byte too counts in the high bits, which are
+-- the bucket
 unfoldable pub hash-from : ℕ → List ℕ → ℕ
 hash-from h [] = h
-hash-from h (b ∷ bs) = hash-from ((h * 2654435761 + b) % 4294967296) bs
+hash-from h (b ∷ bs) = hash-from ((h + b) * 2654435761 % 4294967296) bs
 
 abbrev pub bucket : Term → ℕ
 bucket t = hash-from (t .kind) (t .bytes) / 65536

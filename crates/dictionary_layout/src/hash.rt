@@ -27,7 +27,7 @@ pub fn digest(kind: u32, bytes: &[u8]) -> Digest
     while i < bytes.len() {
         let b = wide(bytes[i]);
         sum += b;
-        hash = (hash * 2654435761 + b) % 4294967296;
+        hash = (hash + b) * 2654435761 % 4294967296;
         i += 1;
     }
     Digest {

@@ -4,7 +4,7 @@ use mathlib.Core.Logic.{inl, inr, _≢_}
 use mathlib.Core.List.{List, [], _∷_, _++_}
 use Prim.Native.Nat.{ℕ, _+_, _-_, _≤_, _<_}
 use native.Mathlib.Omega.{arith}
-use lib.Dec.{T, leb→le}
+use lib.Dec.{T}
 use lib.ListN.{length, getD, replicate, length-replicate, List·getD-append}
 use lib.Seq.{getD-append-seam}
 use Rattle.common.specs.Sizes.{term-limit}
@@ -24,12 +24,12 @@ use Rattle.dictionary_layout.proofs.Choice.{is-true}
 use Rattle.dictionary_layout.proofs.Equality.{same-term-refl}
 use Rattle.dictionary_layout.proofs.Decoding.{decode-layout, length-snoc}
 use Rattle.dictionary_layout.proofs.Digests.{digest-bucket}
-use Rattle.dictionary_layout.proofs.Distinct.{absent←, holds-well, at-in}
+use Rattle.dictionary_layout.proofs.Distinct.{absent←}
 use Rattle.dictionary_layout.proofs.Holding.{Added, Ways, put-cases, valid→}
 use Rattle.dictionary_layout.proofs.Reachable.{put-valid, put-keeps}
 use Rattle.dictionary_layout.proofs.Walking.{in-place}
 use Rattle.dictionary_entries.proofs.Putting.{kind-facts, found-none}
-use Rattle.dictionary_entries.proofs.Reading.{held, count, lengths, entry, entry-names, entry-fits}
+use Rattle.dictionary_entries.proofs.Reading.{count, lengths, entry, entry-names, entry-fits, term-short}
 use Rattle.dictionary_entries.proofs.Searching.{find-hit}
 use Rattle.dictionary_hash.proofs.Hashing.{hashed-none, hashed-more}
 use Rattle.dictionary_index.proofs.Refusals.{refusal-none}
@@ -38,11 +38,7 @@ use Rattle.dictionary_index.proofs.Refusals.{refusal-none}
 module _ (d : Dict) (v : T (valid d)) where
   -- the part of an entry is short enough for a term's
   pub entry-short : (j : ℕ) → j < d .terms → length-of (d .table) j ≤ term-limit
-  entry-short j h =
-      let t = term-of (decode d) j in
-      let i = at-in (decode d) j (omega (arith, count d v)) in
-      let w = holds-well (length (d .table)) (length (d .arena)) (decode d) (held d v) t i in
-      omega (arith, entry d v j h .long, leb→le (length (t .bytes)) term-limit (w .1))
+  entry-short j h = omega (arith, entry d v j h .long, term-short d v j h)
 
   pub hashable : {hash : List ℕ} → hash ≡ replicate term-hash-length 0 → Hashable (d .table) (d .arena) hash (d .terms)
   hashable {hash} z =

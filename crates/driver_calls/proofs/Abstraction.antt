@@ -16,8 +16,9 @@ use Rattle.dictionary_layout.proofs.Holding.{Holds, holds-put, put-all-holds}
 use Rattle.dictionary_layout.proofs.Reachable.{on-layout, start-holds, start-leaves}
 use Rattle.ntriples.specs.Reading.{read-answer, Read-result, read-laid, read-gives}
 use Rattle.ntriples.proofs.Growing.{read-keeps}
-use Rattle.driver_calls.specs.Calls.{Call, put, lookup, run-on, open-on, pass-on, read-in, put-gave, lookup-gave, run-gave}
-use Rattle.driver_calls.specs.Calls.{turn-gave, read-gave, Left}
+use Rattle.ntriples_canonical.specs.Calls.{Write-answer, write-answer, abstract-write, write-gives}
+use Rattle.driver_calls.specs.Calls.{Call, put, lookup, run-on, open-on, pass-on, read-in, write-in, put-gave, lookup-gave}
+use Rattle.driver_calls.specs.Calls.{run-gave, turn-gave, read-gave, write-gave, Left}
 use Rattle.driver_calls.specs.Calls.{call-gives, Abstract-result, abstract-call, event, List-left, calls-give, events-of, terms-after}
 use Rattle.driver_calls.specs.Demand3.{abstract-list}
 use Rattle.driver_calls.proofs.Turns.{open-shows, pass-shows, turn-keeps}
@@ -38,7 +39,7 @@ turn-abstract f tl al ts b h =
 
 pub call-abstract : (tl al : ℕ) (ts : List Term) (c : Call) → Holds tl al ts
     → call-gives (layout tl al ts) c ≡ laid tl al (abstract-call tl al ts c)
-unfolding call-gives abstract-call put-gives lookup-gives run-gives read-gives
+unfolding call-gives abstract-call put-gives lookup-gives run-gives read-gives write-gives
 call-abstract tl al ts (put t) h =
     ap (λ (a : Put-result). record { out = put-gave (a .number) (a .id); contents = a .contents })
     (on-layout tl al ts (put-laid t) (λ _. put-result 1 0 (layout tl al ts)) h)
@@ -53,6 +54,9 @@ call-abstract tl al ts (pass-on b) h = turn-abstract pass-past tl al ts b h
 call-abstract tl al ts (read-in l f) h =
     ap (λ (a : Read-result). record { out = read-gave (a .answer); contents = a .contents })
     (on-layout tl al ts (read-laid l f) (λ _. record { answer = read-answer 1 0 l; contents = layout tl al ts }) h)
+call-abstract tl al ts (write-in s n p) h =
+    ap (λ (a : Write-answer). record { out = write-gave a; contents = layout tl al ts })
+    (on-layout tl al ts (λ tl al ts. abstract-write ts s n p) (λ _. write-answer 1 0 0 p) h)
 
 -- the terms held after a call can be held
 run-holds : (tl al : ℕ) (ts : List Term) (b : Lent) → Holds tl al ts → Holds tl al (abstract-run tl al ts b .held)
@@ -77,6 +81,7 @@ abstract-holds tl al ts (open-on b) h =
 abstract-holds tl al ts (pass-on b) h =
     turn-keeps pass-past pass-shows tl al ts b (Holds tl al) (λ us e. put-all-holds tl al ts run-terms us h e) h
 abstract-holds tl al ts (read-in l f) h = read-keeps (Holds tl al) tl al (put-all-holds tl al) ts l f h
+abstract-holds tl al ts (write-in s n p) h = h
 
 -- THE LIST: what each call gives is as computed, and the contents are those of the terms computed
 abbrev pub abstract-from : ℕ → ℕ → List Term → List Call → List-left

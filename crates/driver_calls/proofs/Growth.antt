@@ -25,8 +25,8 @@ use Rattle.driver_run.proofs.PuttingAll.{Grown, grown-none, grown-trans, grown-
 use Rattle.dictionary_run_terms.proofs.Places.{place-stays}
 use Rattle.driver_refusals.proofs.Refusing.{all-in}
 use Rattle.ntriples.proofs.Growing.{read-keeps}
-use Rattle.driver_calls.specs.Calls.{Call, put, lookup, run-on, open-on, pass-on, read-in, run-gave, abstract-call, Event, event}
-use Rattle.driver_calls.specs.Calls.{ran, events-of, terms-after}
+use Rattle.driver_calls.specs.Calls.{Call, put, lookup, run-on, open-on, pass-on, read-in, write-in, run-gave, abstract-call}
+use Rattle.driver_calls.specs.Calls.{Event, event, ran, events-of, terms-after}
 use Rattle.driver_calls.proofs.Turns.{open-shows, pass-shows, turn-keeps}
 use Rattle.driver_run.proofs.Accepting.{AcceptedRun, run-accepted}
 
@@ -53,6 +53,7 @@ abstract-grows tl al ts (pass-on b) =
     turn-keeps pass-past pass-shows tl al ts b (Grown ts) (put-all-grows tl al ts run-terms) (grown-none ts)
 abstract-grows tl al ts (read-in l f) =
     read-keeps (Grown ts) tl al (λ us r ws g e. grown-trans ts us ws g (put-all-grows tl al us r ws e)) ts l f (grown-none ts)
+abstract-grows tl al ts (write-in s n p) = grown-none ts
 
 pub calls-grow : (tl al : ℕ) (ts : List Term) (cs : List Call) → Grown ts (terms-after tl al ts cs)
 unfolding terms-after
@@ -126,6 +127,10 @@ first-reading tl al ts ws (lookup x) b o e g n =
     absurd (omega arith)
 first-reading tl al ts ws (read-in l f) b o e g n =
     let f : run-on b ≡ read-in l f = ap (λ (x : Event). x .call) e in
+    let z : _≡_ {A = ℕ} 0 1 = cc in
+    absurd (omega arith)
+first-reading tl al ts ws (write-in s m p) b o e g n =
+    let f : run-on b ≡ write-in s m p = ap (λ (x : Event). x .call) e in
     let z : _≡_ {A = ℕ} 0 1 = cc in
     absurd (omega arith)
 first-reading tl al ts ws (open-on x) b o e g n =

@@ -6,7 +6,7 @@ use mathlib.Core.Option.{Option, some, none}
 use mathlib.Core.List.{List, [], _∷_, _++_}
 use Prim.Native.Nat.{ℕ, zero, suc}
 use native.Mathlib.Omega.{arith}
-use lib.Dec.{ltb}
+use lib.Dec.{leb, ltb}
 use lib.ListN.{length}
 use Rattle.driver_refusals.specs.Lent.{Lent}
 use Rattle.driver_load.specs.Closed.{outcome-answer, closed}
@@ -16,11 +16,14 @@ use Rattle.driver_refusals.specs.RunRefusals.{first-refusal, run-refusals}
 use Rattle.dictionary_layout.specs.Terms.{Term, run-terms}
 use Rattle.dictionary_layout.specs.Dictionary.{place-from, kind-known, short, roomy, put-answer, put-at, abstract-put, All-put, full}
 use Rattle.dictionary_layout.specs.Dictionary.{all-put, put-all, Lookup-answer, lookup-answer, term-of, abstract-lookup}
-use Rattle.common.specs.Triples.{Row, In, if}
+use Rattle.common.specs.Triples.{Row, In, if, all}
+use Rattle.common.specs.Rows.{filled, zeros}
 use Rattle.meaning.specs.Run.{Outcome, store-full, findings-full, accepted}
 use Rattle.common.proofs.Lists.{in-nil, in-cons}
 use Rattle.ntriples.proofs.Growing.{read-not-1}
-use Rattle.driver_calls.specs.Calls.{Call, put, lookup, run-on, open-on, pass-on, read-in, abstract-call, Event, event}
+use Rattle.ntriples_canonical.specs.Writing.{text-of, left-out, as-terms}
+use Rattle.ntriples_canonical.specs.Calls.{Write-answer, write-answer, lengths-hold, first-triples, known, written-on, abstract-write}
+use Rattle.driver_calls.specs.Calls.{Call, put, lookup, run-on, open-on, pass-on, read-in, write-in, abstract-call, Event, event}
 use Rattle.driver_calls.specs.Calls.{events-of, number-of}
 use Rattle.driver_calls.proofs.Turns.{run-refusal-not-1, open-shows, pass-shows, turn-not-1}
 
@@ -69,6 +72,22 @@ run-not-1 tl al ts b = passed (first-refusal (run-refusals (length ts) b)) (run-
     passed zero h = three (put-all tl al ts run-terms)
     passed (suc n) h = h
 
+-- a write refuses with 4, 6 or 15
+write-not-1 : (ts : List Term) (store : List ℕ) (n : ℕ) (page : List ℕ) → abstract-write ts store n page .number ≢ 1
+unfolding abstract-write written-on
+write-not-1 ts store n page =
+    let w = as-terms ts (first-triples store n) in
+    go (lengths-hold (length store) n) (all (known (length ts)) (first-triples store n)) (leb (length (text-of w)) (length page))
+    (write-answer 0 (length (text-of w)) (left-out w) (filled page (text-of w))) (omega arith)
+  where
+    go : (a b c : Bool) (x : Write-answer) → x .number ≢ 1
+        → (if {A = Write-answer} a (λ _. if b (λ _. if c (λ _. x) (λ _. write-answer 15 0 0 (zeros page))) (λ _. write-answer 6 0 0 page))
+        (λ _. write-answer 4 0 0 page)) .number ≢ 1
+    go true true true x h = h
+    go true true false x h = omega arith
+    go true false c x h = omega arith
+    go false b c x h = omega arith
+
 pub never-1 : (tl al : ℕ) (ts : List Term) (c : Call) → number-of (abstract-call tl al ts c .out) ≢ 1
 unfolding abstract-call
 never-1 tl al ts (put t) = put-not-1 tl al ts t
@@ -77,6 +96,7 @@ never-1 tl al ts (run-on b) = run-not-1 tl al ts b
 never-1 tl al ts (open-on b) = turn-not-1 open-past open-shows tl al ts b
 never-1 tl al ts (pass-on b) = turn-not-1 pass-past pass-shows tl al ts b
 never-1 tl al ts (read-in l f) = read-not-1 tl al ts l f
+never-1 tl al ts (write-in s n p) = write-not-1 ts s n p
 
 pub events-unbroken : (tl al : ℕ) (ts : List Term) (cs : List Call) (e : Event) → In e (events-of tl al ts cs) → number-of (e .out) ≢ 1
 unfolding events-of

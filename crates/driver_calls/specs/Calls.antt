@@ -1,6 +1,6 @@
--- Lists of calls: each put, lookup, run, open, pass and read is lent the dictionary as the call before left it. What each gives over
--- contents, and what it must give, computed from the lengths of table and arena and the calls' other arguments alone. REFERENCE 8.1 and
--- 8.2. A further kind of call that is lent the dictionary is one more constructor of `Call`, and a line in each definition. Assumes
+-- Lists of calls: each put, lookup, run, open, pass, read and write is lent the dictionary as the call before left it. What each gives
+-- over contents, and what it must give, computed from the lengths of table and arena and the calls' other arguments alone. REFERENCE 8.1
+-- and 8.2. A further kind of call that is lent the dictionary is one more constructor of `Call`, and a line in each definition. Assumes
 -- nothing.
 use mathlib.Core.List.{List, [], _∷_}
 use Prim.Native.Nat.{ℕ}
@@ -14,8 +14,10 @@ use Rattle.driver_run.specs.Run.{abstract-run, run-gives}
 use Rattle.driver_step.specs.Step.{Turn-answer}
 use Rattle.driver_turns.specs.Turns.{open-past, pass-past, abstract-turn, turn-gives}
 use Rattle.ntriples.specs.Reading.{Read-answer, abstract-read, read-gives}
+use Rattle.ntriples_canonical.specs.Calls.{Write-answer, abstract-write, write-gives}
 
--- a call, with what it is lent besides the dictionary: an opening call and a pass what a run is, a read its load and its file
+-- a call, with what it is lent besides the dictionary: an opening call and a pass what a run is, a read its load and its file, a write its
+-- store, the store's triple count and the bytes for the text
 pub data Call : Type 0 where
   put : Term → Call
   lookup : ℕ → Call
@@ -23,6 +25,7 @@ pub data Call : Type 0 where
   open-on : Lent → Call
   pass-on : Lent → Call
   read-in : (load file : List ℕ) → Call
+  write-in : (store : List ℕ) (count : ℕ) (page : List ℕ) → Call
 
 -- what it gives, and leaves in what it was lent besides the dictionary: a put its number and id
 pub data Out : Type 0 where
@@ -31,8 +34,9 @@ pub data Out : Type 0 where
   run-gave : Run-answer → Out
   turn-gave : Turn-answer → Out
   read-gave : Read-answer → Out
+  write-gave : Write-answer → Out
 
--- OVER CONTENTS: what the contracts of put, lookup, run, open, pass and read promise
+-- OVER CONTENTS: what the contracts of put, lookup, run, open, pass, read and write promise
 pub record Left : Type 0 where
   pub out : Out
   pub contents : Dict
@@ -44,6 +48,7 @@ call-gives d (run-on b) = let a = run-gives d b in record { out = run-gave (a .a
 call-gives d (open-on b) = let a = turn-gives open-past d b in record { out = turn-gave (a .answer); contents = a .contents }
 call-gives d (pass-on b) = let a = turn-gives pass-past d b in record { out = turn-gave (a .answer); contents = a .contents }
 call-gives d (read-in l f) = let a = read-gives d l f in record { out = read-gave (a .answer); contents = a .contents }
+call-gives d (write-in s n p) = record { out = write-gave (write-gives d s n p); contents = d }
 
 -- COMPUTED from the terms held: urn:_, the start's, then each new one that an accepted put, a run or an opening call that passes 7, a
 -- pass that passes 7 with a store that it takes, or an accepted read puts, in order
@@ -58,6 +63,7 @@ abstract-call tl al ts (run-on b) = let r = abstract-run tl al ts b in record { 
 abstract-call tl al ts (open-on b) = let r = abstract-turn open-past tl al ts b in record { out = turn-gave (r .answer); held = r .held }
 abstract-call tl al ts (pass-on b) = let r = abstract-turn pass-past tl al ts b in record { out = turn-gave (r .answer); held = r .held }
 abstract-call tl al ts (read-in l f) = let r = abstract-read tl al ts l f in record { out = read-gave (r .answer); held = r .held }
+abstract-call tl al ts (write-in s n p) = record { out = write-gave (abstract-write ts s n p); held = ts }
 
 -- a call and what it gave
 pub record Event : Type 0 where
@@ -99,3 +105,4 @@ number-of (lookup-gave l) = l .number
 number-of (run-gave o) = o .number
 number-of (turn-gave o) = o .run .number
 number-of (read-gave o) = o .number
+number-of (write-gave o) = o .number

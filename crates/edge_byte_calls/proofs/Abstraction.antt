@@ -31,16 +31,18 @@ use Rattle.driver_turns.specs.Turns.{Past-7, open-past, pass-past, abstract-tur
 use Rattle.ntriples.specs.Reading as reading
 use Rattle.ntriples.specs.Reading.{refused, read, read-file, read-answer, Abstract-read-result, shown, abstract-read, Read-result}
 use Rattle.ntriples.specs.Reading.{read-laid, read-gives}
-use Rattle.driver_calls.specs.Calls.{Call, put, lookup, run-on, open-on, pass-on, read-in, abstract-call, terms-after}
+use Rattle.ntriples_canonical.specs.Calls.{Write-answer, write-answer, abstract-write, write-gives}
+use Rattle.driver_calls.specs.Calls.{Call, put, lookup, run-on, open-on, pass-on, read-in, write-in, abstract-call, terms-after}
 use Rattle.driver_calls.proofs.Turns.{Shows, open-shows, pass-shows, turn-cases}
 use Rattle.driver_calls.proofs.Abstraction.{abstract-holds}
 use Rattle.edge_bytes.specs.Bytes.{bytes-of, read-buffer, changes, left-bytes}
 use Rattle.edge_bytes.proofs.Coding.{changes-0, left-written}
 use Rattle.edge_c.specs.Calls.{left-dict, start-bytes-give, put-in-bytes, put-bytes-give, Place-answer, place-at, place-gives}
 use Rattle.edge_c.specs.Calls.{read-lent, run-in-bytes, run-bytes-give, turn-in-bytes, turn-bytes-give, read-in-bytes, read-bytes-give}
+use Rattle.edge_c.specs.Calls.{write-bytes-give}
 use Rattle.edge_c.proofs.Forwarding.{length-numbers, read-whole, read-ragged}
-use Rattle.edge_byte_calls.specs.ByteCalls.{Byte-out, put-out, place-out, run-out, turn-out, read-out, Byte-left, byte-call-gives}
-use Rattle.edge_byte_calls.specs.ByteCalls.{byte-event, Byte-list-left, byte-calls-give, read-call, abstract-place}
+use Rattle.edge_byte_calls.specs.ByteCalls.{Byte-out, put-out, place-out, run-out, turn-out, read-out, write-out, Byte-left}
+use Rattle.edge_byte_calls.specs.ByteCalls.{byte-call-gives, byte-event, Byte-list-left, byte-calls-give, read-call, abstract-place}
 use Rattle.edge_byte_calls.specs.ByteCalls.{turn-answer-in-bytes, abstract-out, byte-events-of, dict-in-bytes, byte-abstract-from}
 use Rattle.edge_byte_calls.proofs.Fitting.{read-back}
 
@@ -172,6 +174,15 @@ turn-abstract f w tl al ts b h =
     ∙ ap (left (turn-out (turn-answer-in-bytes b (r .answer))))
     (left-laid tl al ts (r .answer .run .number) (r .held) (turn-kept f w tl al ts m))
 
+-- a write
+write-abstract : (tl al : ℕ) (ts : List Term) (store : List ℕ) (n : ℕ) (page : List ℕ) → Holds tl al ts
+    → write-bytes-give (dict-in-bytes (layout tl al ts)) store n page ≡ abstract-write ts (read-buffer store) n page
+unfolding write-bytes-give write-gives
+write-abstract tl al ts store n page h =
+    let m = read-buffer store in
+    ap (λ (x : Dict). write-gives x m n page) (read-back h)
+    ∙ on-layout tl al ts (λ tl al ts. abstract-write ts m n page) (λ _. write-answer 1 0 0 page) h
+
 abbrev laid : ℕ → ℕ → List Term → Call → Byte-left
 laid tl al ts c = left (abstract-out tl al ts c) (dict-in-bytes (layout tl al (abstract-call tl al ts (read-call c) .held)))
 
@@ -206,6 +217,8 @@ byte-call-abstract tl al ts (read-in l f) h =
     (ap (λ (x : Dict). read-gives x m f) (read-back h)
     ∙ on-layout tl al ts (read-laid m f) (λ _. record { answer = read-answer 1 0 m; contents = d }) h)
     ∙ ap (left (abstract-out tl al ts (read-in l f))) (left-laid tl al ts (r .answer .number) (r .held) (read-kept tl al ts m f))
+byte-call-abstract tl al ts (write-in s n p) h =
+    ap (λ (a : Write-answer). left (write-out a) (dict-in-bytes (layout tl al ts))) (write-abstract tl al ts s n p h)
 
 -- THE LIST
 byte-calls-abstract : (tl al : ℕ) (ts : List Term) (cs : List Call) → Holds tl al ts

@@ -19,8 +19,8 @@ use Rattle.driver_refusals.specs.Lent.{Lent}
 use Rattle.driver_load.specs.Closed.{Run-answer}
 use Rattle.driver_run.specs.Run.{abstract-run}
 use Rattle.driver_run.proofs.PuttingAll.{Grown, grown-length, grown-trans}
-use Rattle.driver_calls.specs.Calls.{Call, put, lookup, run-on, open-on, pass-on, read-in, run-gave, abstract-call, event, events-of}
-use Rattle.driver_calls.specs.Calls.{terms-after, number-of}
+use Rattle.driver_calls.specs.Calls.{Call, put, lookup, run-on, open-on, pass-on, read-in, write-in, run-gave, abstract-call, event}
+use Rattle.driver_calls.specs.Calls.{events-of, terms-after, number-of}
 use Rattle.driver_calls.proofs.Abstraction.{abstract-holds}
 use Rattle.driver_calls.proofs.Growth.{abstract-grows, calls-grow}
 use Rattle.driver_calls.proofs.Unbroken.{never-1}
@@ -78,6 +78,7 @@ same-number tl al ts (run-on b) = refl
 same-number tl al ts (open-on b) = refl
 same-number tl al ts (pass-on b) = refl
 same-number tl al ts (read-in l f) = refl
+same-number tl al ts (write-in s n p) = refl
 
 -- the place of a term that is held
 pub record Placed (ws : List Term) (i : ℕ) (p : Place-answer) : Type 0 where

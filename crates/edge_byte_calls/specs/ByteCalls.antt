@@ -1,6 +1,6 @@
--- Lists of calls through the C entry points: each put, lookup, run, open, pass and read is lent the dictionary, its table as bytes, as
--- the call before left it, so what one call writes the next reads. What each gives over bytes, and what it must give, computed from the
--- lengths of table and arena in bytes and the calls' other arguments alone. REFERENCE 8.4 and 9. Assumes nothing.
+-- Lists of calls through the C entry points: each put, lookup, run, open, pass, read and write is lent the dictionary, its table as
+-- bytes, as the call before left it, so what one call writes the next reads. What each gives over bytes, and what it must give, computed
+-- from the lengths of table and arena in bytes and the calls' other arguments alone. REFERENCE 8.4 and 9. Assumes nothing.
 use mathlib.Core.List.{List, [], _∷_, map}
 use Prim.Native.Nat.{ℕ, _/_}
 use lib.ListN.{take}
@@ -13,22 +13,24 @@ use Rattle.driver_run.specs.Run.{abstract-run}
 use Rattle.driver_step.specs.Step.{Turn-answer}
 use Rattle.driver_turns.specs.Turns.{open-past, pass-past, abstract-turn}
 use Rattle.ntriples.specs.Reading.{Read-answer, abstract-read}
-use Rattle.driver_calls.specs.Calls.{Call, put, lookup, run-on, open-on, pass-on, read-in, abstract-call, terms-after}
+use Rattle.ntriples_canonical.specs.Calls.{Write-answer, abstract-write}
+use Rattle.driver_calls.specs.Calls.{Call, put, lookup, run-on, open-on, pass-on, read-in, write-in, abstract-call, terms-after}
 use Rattle.edge_bytes.specs.Bytes.{bytes-of, read-buffer}
 use Rattle.edge_c.specs.Calls.{read-dict, put-bytes-give, Place-answer, place-at, place-gives, read-lent, answer-in-bytes}
-use Rattle.edge_c.specs.Calls.{run-bytes-give, turn-bytes-give, load-in-bytes, read-bytes-give}
+use Rattle.edge_c.specs.Calls.{run-bytes-give, turn-bytes-give, load-in-bytes, read-bytes-give, write-bytes-give}
 
--- what a call gives: a put its number and id, a lookup the term's place in the arena, a run, an opening call, a pass and a read their
--- answer and the bytes that they leave
+-- what a call gives: a put its number and id, a lookup the term's place in the arena, a run, an opening call, a pass, a read and a write
+-- their answer and the bytes that they leave
 pub data Byte-out : Type 0 where
   put-out : ℕ → ℕ → Byte-out
   place-out : Place-answer → Byte-out
   run-out : Run-answer → Byte-out
   turn-out : Turn-answer → Byte-out
   read-out : Read-answer → Byte-out
+  write-out : Write-answer → Byte-out
 
--- OVER BYTES: what the contracts of the C entry points promise. The buffers of a run, an opening call and a pass, a read's load and the
--- dictionary's table are bytes.
+-- OVER BYTES: what the contracts of the C entry points promise. The buffers of a run, an opening call and a pass, a read's load, a write's
+-- store and the dictionary's table are bytes.
 pub record Byte-left : Type 0 where
   pub out : Byte-out
   pub contents : Dict
@@ -40,6 +42,7 @@ byte-call-gives d (run-on b) = let a = run-bytes-give d b in record { out = run-
 byte-call-gives d (open-on b) = let a = turn-bytes-give open-past d b in record { out = turn-out (a .answer); contents = a .contents }
 byte-call-gives d (pass-on b) = let a = turn-bytes-give pass-past d b in record { out = turn-out (a .answer); contents = a .contents }
 byte-call-gives d (read-in l f) = let a = read-bytes-give d l f in record { out = read-out (a .answer); contents = a .contents }
+byte-call-gives d (write-in s n p) = record { out = write-out (write-bytes-give d s n p); contents = d }
 
 -- a call and what it gave
 pub record Byte-event : Type 0 where
@@ -69,6 +72,7 @@ read-call (run-on b) = run-on (read-lent b)
 read-call (open-on b) = open-on (read-lent b)
 read-call (pass-on b) = pass-on (read-lent b)
 read-call (read-in l f) = read-in (read-buffer l) f
+read-call (write-in s n p) = write-in (read-buffer s) n p
 
 -- terms' bytes follow each other without gaps, so a term's begin where those of the terms before it end; 0 and 0 after a refusal
 unfoldable pub abstract-place : List Term → ℕ → Place-answer
@@ -85,6 +89,7 @@ abstract-out tl al ts (run-on b) = run-out (answer-in-bytes b (abstract-run tl a
 abstract-out tl al ts (open-on b) = turn-out (turn-answer-in-bytes b (abstract-turn open-past tl al ts (read-lent b) .answer))
 abstract-out tl al ts (pass-on b) = turn-out (turn-answer-in-bytes b (abstract-turn pass-past tl al ts (read-lent b) .answer))
 abstract-out tl al ts (read-in l f) = read-out (load-in-bytes l (abstract-read tl al ts (read-buffer l) f .answer))
+abstract-out tl al ts (write-in s n p) = write-out (abstract-write ts (read-buffer s) n p)
 
 unfoldable pub byte-events-of : ℕ → ℕ → List Term → List Call → List Byte-event
 byte-events-of tl al ts [] = []
@@ -113,3 +118,4 @@ byte-number-of (place-out p) = p .number
 byte-number-of (run-out o) = o .number
 byte-number-of (turn-out o) = o .run .number
 byte-number-of (read-out o) = o .number
+byte-number-of (write-out o) = o .number

@@ -16,6 +16,7 @@ use Rattle.driver_refusals.specs.Lent.{Lent, lent}
 use Rattle.edge_c.specs.Forwarded.{longest-load, longest-store, longest-findings, longest-work, longer-load, load-array}
 use Rattle.edge_c.specs.Forwarded.{table-forwarded, load-forwarded, store-forwarded, findings-forwarded, work-forwarded}
 use Rattle.edge_c.specs.Forwarded.{full-load, full-array, full-forwarded, Forwarded-all, Enough, Forwarded-both, Enough-both}
+use Rattle.edge_c.specs.Forwarded.{Forwarded-store, Enough-store}
 use Rattle.edge_bytes.proofs.Coding.{forwarded-ragged, forwarded-all, forwarded-more}
 
 pub length-numbers : (b : List ℕ) → length (numbers-of b) ≡ length b / 4
@@ -148,6 +149,13 @@ both-forwarded {t} {l} h table load p q = record {
   load-numbers = prefix-forwarded (full-enough (length load / 4) l (h .load-room)) load q;
 }
 
+pub store-forwarded-both : {t s : List ℕ} → Enough-store t s → (table store : List ℕ) {i j : ℕ} → i ≡ table-forwarded (length table)
+    → j ≡ store-forwarded (length store) → Forwarded-store (take i t) (take j s) table store
+store-forwarded-both {t} {s} h table store p q = record {
+  table-numbers = prefix-forwarded (table-enough t (h .table-room)) table p;
+  store-numbers = prefix-forwarded (store-enough s (h .store-room)) store q;
+}
+
 -- local arrays suffice
 long-enough : {m : ℕ} (n : ℕ) → m ≤ n → m ≤ length (replicate {A = ℕ} n 0)
 long-enough {m} n h = subst (λ (k : ℕ). m ≤ k) (sym (length-replicate {A = ℕ} n 0)) h
@@ -167,6 +175,9 @@ arrays = record {
 
 pub both-arrays : Enough-both (replicate table-limit 0) (replicate full-array 0)
 both-arrays = record { table-room = table-array; load-room = long-enough full-array (omega arith) }
+
+pub store-arrays : Enough-store (replicate table-limit 0) (replicate longest-store 0)
+store-arrays = record { table-room = table-array; store-room = long-enough longest-store (omega arith) }
 
 -- THE NUMBERS t READ from the bytes b: the bytes' own, where they are all
 pub record Read (most more : ℕ) (b t : List ℕ) : Type 0 where

@@ -6,3 +6,4 @@ pub mod Runs
 pub mod Passes
 pub mod Places
 pub mod Files
+pub mod Pages

@@ -18,6 +18,7 @@ use Rattle.driver_load.specs.Closed.{Run-answer}
 use Rattle.driver_run.specs.Run.{Run-result, run-gives}
 use Rattle.driver_turns.specs.Turns.{Past-7, Turn-result, turn-gives}
 use Rattle.ntriples.specs.Reading.{Read-answer, read-answer, Read-result, read-gives}
+use Rattle.ntriples_canonical.specs.Calls.{Write-answer, write-gives}
 use Rattle.edge_bytes.specs.Bytes.{bytes-of, read-buffer, left-bytes}
 
 -- a dictionary whose table is bytes, as numbers
@@ -131,3 +132,7 @@ read-bytes-give d load file = read-in-bytes (d .table) load (read-gives (read-di
 -- the answer of a read, with all that it is lent as it is left
 abbrev pub read-result : ℕ → ℕ → List ℕ → Dict → Read-result
 read-result n count load d = record { answer = read-answer n count load; contents = d }
+
+-- WRITE: its store is bytes too; its page is bytes in the call on numbers already. Dictionary and store are lent to be read
+unfoldable pub write-bytes-give : Dict → List ℕ → ℕ → List ℕ → Write-answer
+write-bytes-give d store n page = write-gives (read-dict d) (read-buffer store) n page

@@ -4,13 +4,13 @@
 use mathlib.Core.List.{List}
 use mathlib.Core.Path.{_≡_}
 use Prim.Native.Nat.{ℕ, _+_, _*_, _-_, _/_, _%_, _≤_}
-use lib.ListN.{length}
+use lib.ListN.{length, take}
 use Rattle.common.specs.Sizes.{load-width, store-width, finding-width, load-limit, store-limit, finding-limit, entry-limit, table-limit}
 use Rattle.common.specs.Sizes.{run-terms-count, work-width}
 use Rattle.common.specs.Triples.{if}
 use Rattle.common.specs.Rows.{filled}
 use Rattle.driver_refusals.specs.Lent.{Lent}
-use Rattle.edge_bytes.specs.Bytes.{bytes-of, forwarded}
+use Rattle.edge_bytes.specs.Bytes.{numbers-of, bytes-of, forwarded}
 use Rattle.edge_c.specs.Calls.{changes-load}
 
 -- the numbers of the longest load, store and findings
@@ -96,3 +96,17 @@ pub record Enough-both (t l : List ℕ) : Type 0 where
 -- the bytes of a load after a read that answered n and left the numbers l of those passed: they stand in front, and zeros behind them
 unfoldable pub front-load : ℕ → List ℕ → List ℕ → List ℕ
 front-load n b l = if (changes-load n) (λ _. filled b (bytes-of l)) (λ _. b)
+
+-- the same for a write: the numbers t and s, for the bytes of the table and of the store
+pub record Forwarded-store (t s table store : List ℕ) : Type 0 where
+  pub table-numbers : length t ≡ table-forwarded (length table)
+  pub store-numbers : length s ≡ store-forwarded (length store)
+
+pub record Enough-store (t s : List ℕ) : Type 0 where
+  pub table-room : table-limit ≤ length t
+  pub store-room : longest-store ≤ length s
+
+-- the numbers s begin with those of the first n rows of the bytes of a store, where they are as many as the bytes have
+abbrev pub Rows-read : List ℕ → ℕ → List ℕ → Type 0
+Rows-read store n s =
+    store-width * n ≤ length s → length store ≡ 4 * length s → take (store-width * n) s ≡ take (store-width * n) (numbers-of store)

@@ -1,10 +1,11 @@
-// The C entry points: start, put, lookup, run, open, pass and read over byte slices. Ids are little-endian. Each entry point owns the
-// numbers that the calls on numbers work on, and lends them to one function, which knows them as slices only.
+// The C entry points: start, put, lookup, run, open, pass, read and write over byte slices. Ids are little-endian. Each entry point owns
+// the numbers that the calls on numbers work on, and lends them to one function, which knows them as slices only.
 mod dictionary; // dictionary.rt: start, put and lookup
 mod read; // read.rt: read
 mod run; // run.rt: run
 mod sizes; // sizes.rt: how many numbers the calls are passed
 mod turns; // turns.rt: open and pass
+mod write; // write.rt: write
 
 use crate::dictionary::lookup_in;
 use crate::dictionary::put_in;
@@ -17,6 +18,7 @@ use crate::sizes::LOAD_ARRAY;
 use crate::sizes::STORE;
 use crate::sizes::WORK;
 use crate::turns::turn_in;
+use crate::write::write_in;
 use common::TABLE_LIMIT;
 ghost use mathlib.Core.Path.{_≡_};
 ghost use Rattle.dictionary_layout.specs.Terms.{term};
@@ -24,8 +26,9 @@ ghost use Rattle.dictionary_layout.specs.Layout.{dict};
 ghost use Rattle.dictionary_layout.specs.Calls.{start-result, put-result};
 ghost use Rattle.driver_refusals.specs.Lent.{lent};
 ghost use Rattle.edge_c.specs.Calls.{read-dict, start-bytes-give, put-bytes-give, place-answer, Places, run-bytes-give};
-ghost use Rattle.edge_c.specs.Calls.{run-result, turn-bytes-give, turn-result, read-result, read-bytes-give};
+ghost use Rattle.edge_c.specs.Calls.{run-result, turn-bytes-give, turn-result, read-result, read-bytes-give, write-bytes-give};
 ghost use Rattle.driver_turns.specs.Turns.{open-past, pass-past};
+ghost use Rattle.ntriples_canonical.specs.Calls.{write-answer};
 
 // Starts a dictionary: refusal 4, 7 or 0. The counters are written.
 #[no_mangle]
@@ -265,5 +268,41 @@ pub extern "C" fn tablestork_read(
     *terms = next.counters.terms;
     *used = next.counters.used;
     *triples = next.count;
+    next.number
+}
+
+// Writes the first rows of a store as N-Triples: refusal 1, 4, 6, 15 or 0. The text's length and the number of triples left out are
+// written.
+#[no_mangle]
+pub extern "C" fn tablestork_write(
+    table: &[u8],
+    arena: &[u8],
+    terms: u32,
+    used: u32,
+    store: &[u8],
+    triples: u32,
+    page: &mut [u8],
+    length: &mut u64,
+    left: &mut u32,
+) -> u32
+    ensures { λ r. ⌜ write-answer r (now (length .exit)) (now (left .exit)) (now (page .exit))
+        ≡ write-bytes-give (dict (now (table .entry)) (now (arena .entry)) terms used) (now (store .entry)) triples
+        (now (page .entry)) ⌝ }
+{
+    let mut t = [0u32; TABLE_LIMIT];
+    let mut s = [0u32; STORE];
+    let next = write_in(
+        &mut t,
+        &mut s,
+        table,
+        arena,
+        terms,
+        used,
+        store,
+        triples,
+        page,
+    );
+    *length = next.used as u64;
+    *left = next.left;
     next.number
 }

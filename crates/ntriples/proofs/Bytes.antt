@@ -1,22 +1,22 @@
 -- For the code, which goes through bytes: where the definitions over characters can be met byte by byte. Assumes nothing.
-use mathlib.Core.Path.{_≡_, refl, sym, _∙_, ap, ap₂}
+use mathlib.Core.Path.{_≡_, refl, sym, _∙_, ap, ap₂, subst}
 use mathlib.Core.Logic.{_⊎_, inl, inr}
-use mathlib.Core.Bool.{Bool, true, false, _&&_}
+use mathlib.Core.Bool.{Bool, true, false, _&&_, _||_, not}
 use mathlib.Core.Option.{Option}
 use mathlib.Core.List.{List, [], _∷_, _++_}
 use Prim.Native.Nat.{ℕ, zero, suc, _≤_, _<_}
 use native.Mathlib.Omega.{arith}
 use lib.Dec.{T, ltb, eqb, ltb→lt, lt→ltb, eqb→eq, not-T}
-use lib.ListN.{drop}
+use lib.ListN.{length, drop}
 use Rattle.common.specs.Triples.{if}
 use Rattle.common.proofs.Lists.{and→, and←}
 use Rattle.dictionary_layout.proofs.Choice.{is-true, is-false, decide-bool}
-use Rattle.ntriples.specs.Utf8.{decode-after, decode, encode-one, encode}
-use Rattle.ntriples.specs.Characters.{one-of, all, iri-char, iri}
+use Rattle.ntriples.specs.Utf8.{within, decode-after, decode, encode-one, encode}
+use Rattle.ntriples.specs.Characters.{letter, digit, one-of, all, iri-char, iri, tag-char, tag-from, tag}
 use Rattle.ntriples.specs.Grammar.{quoted}
-use Rattle.ntriples.proofs.Tests.{if-ind, not-lt}
+use Rattle.ntriples.proofs.Tests.{if-ind, in→, or→, not-lt}
 use Rattle.ntriples.proofs.Utf8.{one-of-one}
-use Rattle.ntriples.proofs.Tokens.{one-of→, one-of-none}
+use Rattle.ntriples.proofs.Tokens.{one-of→, one-of-none, tag-chars}
 
 -- passing over elements is a step of the position
 pub decode-drop : (k : ℕ) (bs : List ℕ) → decode-after k bs ≡ decode (drop k bs)
@@ -46,10 +46,33 @@ one-high c h =
     if-ind High (ltb c 65536) _ _ (λ _. (omega arith, (omega arith, (omega arith, tt)))) λ _.
     (omega arith, (omega arith, (omega arith, (omega arith, tt))))
 
-not-small : (b x : ℕ) → 128 ≤ b → x < 128 → T (eqb b x) → ⊥
+-- so they pass each test that all above 127 pass;
+pub high-all : (f : ℕ → Bool) → ((b : ℕ) → 128 ≤ b → T (f b)) → (bs : List ℕ) → High bs → T (all f bs)
+unfolding High
+high-all f k [] h = tt
+high-all f k (b ∷ bs) h = and← (f b) (all f bs) (k b (h .0)) (high-all f k bs (h .1))
+
+-- and so do all bytes of a character that passes it
+pub one-all : (f : ℕ → Bool) → ((b : ℕ) → 128 ≤ b → T (f b)) → (c : ℕ) → T (f c) → T (all f (encode-one c))
+one-all f k c h = go (decide-bool (ltb c 128))
+  where
+    go : T (ltb c 128) ⊎ (T (ltb c 128) → ⊥) → T (all f (encode-one c))
+    go (inl t) = subst (λ (l : List ℕ). T (all f l)) (sym (one-of-one c (ltb→lt c 128 t))) (and← (f c) true h tt)
+    go (inr n) = high-all f k (encode-one c) (one-high c (not-lt c 128 n))
+
+-- there is one at least
+pub one-some : (c : ℕ) → 1 ≤ length (encode-one c)
+unfolding encode-one
+one-some c =
+    if-ind (λ (l : List ℕ). 1 ≤ length l) (ltb c 128) _ _ (λ _. omega arith) λ _.
+    if-ind (λ (l : List ℕ). 1 ≤ length l) (ltb c 2048) _ _ (λ _. omega arith) λ _.
+    if-ind (λ (l : List ℕ). 1 ≤ length l) (ltb c 65536) _ _ (λ _. omega arith) (λ _. omega arith)
+
+-- each is none of ASCII's,
+pub not-small : (b x : ℕ) → 128 ≤ b → x < 128 → T (eqb b x) → ⊥
 not-small b x h l t = let e = eqb→eq b x t in omega arith
 
--- and none of ASCII's
+-- nor one of a list of them
 no-ascii : (ds : List ℕ) (b : ℕ) → 128 ≤ b → T (all (λ d. ltb d 128) ds) → T (one-of ds b) → ⊥
 no-ascii [] b h l t = one-of-none b t
 no-ascii (d ∷ ds) b h l t =
@@ -79,11 +102,6 @@ iri-high c h =
     (not-T (one-of (60 ∷ 62 ∷ 34 ∷ 123 ∷ 125 ∷ 124 ∷ 94 ∷ 96 ∷ 92 ∷ []) c)
     (no-ascii (60 ∷ 62 ∷ 34 ∷ 123 ∷ 125 ∷ 124 ∷ 94 ∷ 96 ∷ 92 ∷ []) c h tt))
 
-all-high : (bs : List ℕ) → High bs → T (all iri-char bs)
-unfolding High
-all-high [] h = tt
-all-high (b ∷ bs) h = and← (iri-char b) (all iri-char bs) (iri-high b (h .0)) (all-high bs (h .1))
-
 iri-one : (c : ℕ) → all iri-char (encode-one c) ≡ iri-char c
 iri-one c = go (decide-bool (ltb c 128))
   where
@@ -91,7 +109,8 @@ iri-one c = go (decide-bool (ltb c 128))
     go (inl t) = ap (all iri-char) (one-of-one c (ltb→lt c 128 t)) ∙ and-true (iri-char c)
     go (inr n) =
         let h = not-lt c 128 n in
-        sym (is-true (all iri-char (encode-one c)) (all-high (encode-one c) (one-high c h))) ∙ is-true (iri-char c) (iri-high c h)
+        sym (is-true (all iri-char (encode-one c)) (high-all iri-char iri-high (encode-one c) (one-high c h)))
+        ∙ is-true (iri-char c) (iri-high c h)
 
 -- the characters an IRI may have,
 pub iri-chars-bytes : (cs : List ℕ) → all iri-char (encode cs) ≡ all iri-char cs
@@ -144,3 +163,55 @@ colon-bytes (c ∷ cs) = or-of (encode-one c) (encode cs) 58 ∙ ap₂ (λ (x y 
 pub iri-bytes : (cs : List ℕ) → iri (encode cs) ≡ iri cs
 unfolding iri
 iri-bytes cs = ap₂ (λ x y. x && y) (colon-bytes cs) (iri-chars-bytes cs)
+
+-- A LANGUAGE TAG CAN BE TESTED BYTE BY BYTE: all its characters are ASCII
+tag-ascii : (c : ℕ) → T (tag-char c) → c < 128
+tag-ascii c h = go (or→ (letter c) (digit c || eqb c 45) h)
+  where
+    one : T (within 65 90 c) ⊎ T (within 97 122 c) → c < 128
+    one (inl t) = omega (arith, in→ 65 90 c t)
+    one (inr t) = omega (arith, in→ 97 122 c t)
+
+    other : T (digit c) ⊎ T (eqb c 45) → c < 128
+    other (inl t) = omega (arith, in→ 48 57 c t)
+    other (inr t) = omega (arith, eqb→eq c 45 t)
+
+    go : T (letter c) ⊎ T (digit c || eqb c 45) → c < 128
+    go (inl t) = one (or→ (within 65 90 c) (within 97 122 c) t)
+    go (inr t) = other (or→ (digit c) (eqb c 45) t)
+
+high-no-tag : (b : ℕ) → 128 ≤ b → (bs : List ℕ) → T (all tag-char (b ∷ bs)) → ⊥
+high-no-tag b h bs t = omega (arith, tag-ascii b (and→ (tag-char b) (all tag-char bs) t .0))
+
+-- nor are the bytes of a character above 127: there is one
+one-no-tag : (c : ℕ) → 128 ≤ c → T (all tag-char (encode-one c)) → ⊥
+unfolding High
+one-no-tag c h = go (encode-one c) (one-high c h) (one-some c)
+  where
+    go : (l : List ℕ) → High l → 1 ≤ length l → T (all tag-char l) → ⊥
+    go [] i n t = omega arith
+    go (b ∷ l) i n t = high-no-tag b (i .0) l t
+
+-- whatever may stand at this place of the tag
+tag-from-bytes : (letters seen : Bool) (cs : List ℕ) → tag-from letters seen (encode cs) ≡ tag-from letters seen cs
+unfolding encode tag-from
+tag-from-bytes letters seen [] = refl
+tag-from-bytes letters seen (c ∷ cs) =
+    go (decide-bool (ltb c 128)) (tag-from-bytes false false cs) (tag-from-bytes letters true cs)
+  where
+    go : T (ltb c 128) ⊎ (T (ltb c 128) → ⊥) → tag-from false false (encode cs) ≡ tag-from false false cs
+        → tag-from letters true (encode cs) ≡ tag-from letters true cs
+        → tag-from letters seen (encode-one c ++ encode cs) ≡ tag-from letters seen (c ∷ cs)
+    go (inl t) e f =
+        ap (λ (l : List ℕ). tag-from letters seen (l ++ encode cs)) (one-of-one c (ltb→lt c 128 t))
+        ∙ ap₂ (λ x y. if (eqb c 45) (λ _. seen && x) (λ _. (letter c || (not letters && digit c)) && y)) e f
+    go (inr n) e f =
+        let h = not-lt c 128 n in
+        let l = encode-one c ++ encode cs in
+        sym (is-false (tag-from letters seen l) (λ t. one-no-tag c h (and→ (all tag-char (encode-one c)) (all tag-char (encode cs))
+        (subst T (all-of tag-char (encode-one c) (encode cs)) (tag-chars letters seen l t)) .0)))
+        ∙ is-false (tag-from letters seen (c ∷ cs)) (λ t. high-no-tag c h cs (tag-chars letters seen (c ∷ cs) t))
+
+pub tag-bytes : (cs : List ℕ) → tag (encode cs) ≡ tag cs
+unfolding tag
+tag-bytes cs = tag-from-bytes true false cs

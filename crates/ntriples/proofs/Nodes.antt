@@ -157,13 +157,14 @@ same-chars a b h k e =
     same-some (sym (decode-encode a h) ∙ (ap decode e ∙ decode-encode b k))
 
 -- neither tag nor IRI holds a zero,
-abbrev nonzero : ℕ → Bool
+abbrev pub nonzero : ℕ → Bool
 nonzero c = not (eqb c 0)
 
 by-zero : (f : ℕ → Bool) → (T (f 0) → ⊥) → (cs : List ℕ) → T (all f cs) → T (all nonzero cs)
 by-zero f n cs h = all-map f nonzero cs (λ c i. not-T (eqb c 0) (λ e. n (subst (λ (x : ℕ). T (f x)) (eqb→eq c 0 e) i))) h
 
-suffix-nonzero : (d : List ℕ) → T (iri d || tag d) → T (all nonzero d)
+-- so what follows a literal's text is without one
+pub suffix-nonzero : (d : List ℕ) → T (iri d || tag d) → T (all nonzero d)
 unfolding iri tag iri-char
 suffix-nonzero d h = go (or→ (iri d) (tag d) h)
   where

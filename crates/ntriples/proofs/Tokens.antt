@@ -24,11 +24,15 @@ pub one-of-none : (c : ℕ) → T (one-of [] c) → ⊥
 unfolding one-of
 one-of-none c h = h
 
--- EACH OF A LIST: of two lists one after the other, of the second alone, and by a weaker test
+-- EACH OF A LIST: of two lists one after the other, of one of them alone, and by a weaker test
 module _ (f : ℕ → Bool) where
   pub all-append : (a b : List ℕ) → T (all f a) → T (all f b) → T (all f (a ++ b))
   all-append [] b h k = k
   all-append (c ∷ a) b h k = let (i, j) = and→ (f c) (all f a) h in and← (f c) (all f (a ++ b)) i (all-append a b j k)
+
+  pub all-left : (a b : List ℕ) → T (all f (a ++ b)) → T (all f a)
+  all-left [] b h = tt
+  all-left (c ∷ a) b h = let (i, j) = and→ (f c) (all f (a ++ b)) h in and← (f c) (all f a) i (all-left a b j)
 
   pub all-right : (a b : List ℕ) → T (all f (a ++ b)) → T (all f b)
   all-right [] b h = h

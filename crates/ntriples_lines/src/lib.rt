@@ -9,6 +9,7 @@ use crate::terms::subject;
 use ntriples_tokens::skip_space;
 use ntriples_utf8::Decoded;
 use ntriples_utf8::decode;
+pub use terms::XSD_STRING;
 ghost use mathlib.Core.Path.{_≡_};
 ghost use Prim.Native.Nat.{_≤_};
 ghost use lib.ListN.{length, drop};

@@ -21,7 +21,7 @@ pub enum FoundTerm {
 // The datatype of a plain literal, and its length.
 pub const XSD_WIDTH: usize = 39;
 
-const XSD_STRING: [u8; XSD_WIDTH] = *b"http://www.w3.org/2001/XMLSchema#string";
+pub const XSD_STRING: [u8; XSD_WIDTH] = *b"http://www.w3.org/2001/XMLSchema#string";
 
 // The datatype after the first '^'.
 fn typed(chars: &[u32], at: usize, out: &mut [u8], used: usize) -> Parsed

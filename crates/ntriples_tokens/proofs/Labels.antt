@@ -3,16 +3,17 @@ use mathlib.Core.Path.{_≡_, refl, sym, ap, _∙_}
 use mathlib.Core.Bool.{Bool, true, false, _&&_, _||_}
 use mathlib.Core.Option.{some, none}
 use mathlib.Core.List.{List, [], _∷_, _++_, append-assoc, append-nil}
-use Prim.Native.Nat.{ℕ, suc, _+_, _-_, _≤_, _<_}
+use Prim.Native.Nat.{ℕ, zero, suc, _+_, _-_, _≤_, _<_}
 use native.Mathlib.Numerals.{add-one}
 use native.Mathlib.Omega.{arith}
-use lib.Dec.{eqb}
+use lib.Dec.{eqb, eqb·zero-suc, eqb·suc-suc}
 use lib.ListN.{length, getD, drop, length-drop, drop-of-length-le}
 use lib.Seq.{drop-cons}
 use borrow.Author.Tests.{eq-eqb, ne-eqb}
 use Rattle.common.specs.Triples.{if}
 use Rattle.ntriples.specs.Characters.{digit, pn-chars-u, pn-chars}
 use Rattle.ntriples.specs.Grammar.{Token, token, push, when, dotted, label-rest, label, blank-node-label}
+use Rattle.ntriples.specs.Nodes.{empty, whole}
 use Rattle.ntriples_tokens.specs.Contracts.{part, Label-ends}
 use Rattle.ntriples_tokens.proofs.Parts.{part-none, part-suc, part-cons}
 
@@ -185,3 +186,33 @@ module _ (chars : List ℕ) (at : ℕ) (h : at + 2 < length chars) where
         both
         ∙ (ap (λ (x : Bool). when x (λ _. push c (label-rest (drop (at + 3) chars)))) (sym b)
         ∙ (λ i. some (token ((ap (λ l. c ∷ l) (r .chars-are) ∙ sym p) i) (r .rest-is i))))
+
+-- ALL THE CHARACTERS ARE A LABEL: there is one,
+pub whole-none : (chars : List ℕ) → length chars ≡ 0 → false ≡ whole (label chars)
+unfolding label
+whole-none [] e = refl
+whole-none (c ∷ cs) e = absurd (omega arith)
+
+-- none is left behind place `end`
+empty-drop : (l : List ℕ) (end : ℕ) → end ≤ length l → empty (drop end l) ≡ eqb end (length l)
+empty-drop [] zero h = refl
+empty-drop [] (suc end) h = absurd (omega arith)
+empty-drop (c ∷ l) zero h = sym (eqb·zero-suc (length l))
+empty-drop (c ∷ l) (suc end) h = empty-drop l end (omega arith) ∙ sym (eqb·suc-suc end (length l))
+
+-- the first may stand there, and its rest ends with the last,
+pub whole-is : (chars : List ℕ) {end : ℕ} {r : Bool} → 0 < length chars → true ≡ (pn-chars-u (getD chars 0 0) || digit (getD chars 0 0))
+    → Label-ends chars 1 end → r ≡ eqb end (length chars) → r ≡ whole (label chars)
+unfolding label
+whole-is [] h b e q = absurd (omega arith)
+whole-is (c ∷ cs) {end} h b e q =
+    q
+    ∙ (sym (empty-drop (c ∷ cs) end (e .within))
+    ∙ (ap empty (sym (e .rest-is)) ∙ ap (λ (x : Bool). whole (when x (λ _. push c (label-rest cs)))) b))
+
+-- or it may not
+pub whole-bad : (chars : List ℕ) → 0 < length chars → false ≡ (pn-chars-u (getD chars 0 0) || digit (getD chars 0 0))
+    → false ≡ whole (label chars)
+unfolding label
+whole-bad [] h b = absurd (omega arith)
+whole-bad (c ∷ cs) h b = ap (λ (x : Bool). whole (when x (λ _. push c (label-rest cs)))) b

@@ -60,6 +60,15 @@ parses-part {chars} {at} {i} {end} {old} {used} {o} {new} {n} h k l e w =
       same = w .same;
     }
 
+-- the buffer has them
+pub part-room : {chars : List ℕ} {at end : ℕ} {old : List ℕ} {used : ℕ} {new : List ℕ} {n : ℕ} → Room 0 chars at old used
+    → end ≤ length chars → at ≤ end → Wrote old used (encode (part chars at end)) new n → n ≤ length new
+part-room {chars} {at} {end} {old} {used} {new} {n} r l k w =
+    let m = r .room in
+    let q = w .end in
+    let s = w .same in
+    omega (arith, encode-few (part chars at end), part-length chars at end l)
+
 -- the answer of a function that was matched
 pub parses-as : {chars : List ℕ} {at : ℕ} {old : List ℕ} {used : ℕ} {o : Option Token} {r s : Parsed} {new : List ℕ} → r ≡ s
     → Parses 0 chars at old used o r new → Parses 0 chars at old used o s new

@@ -3,9 +3,11 @@ use crate::characters::label_first;
 use crate::characters::pn_chars;
 use crate::values::Parsed;
 use crate::values::put_part;
+ghost use mathlib.Core.Path.{_≡_};
 ghost use Prim.Native.Nat.{_≤_};
 ghost use lib.ListN.{length, drop};
-ghost use Rattle.ntriples.specs.Grammar.{blank-node-label};
+ghost use Rattle.ntriples.specs.Grammar.{label, blank-node-label};
+ghost use Rattle.ntriples.specs.Nodes.{whole};
 ghost use Rattle.ntriples_tokens.specs.Contracts.{Room, Parses, Label-ends};
 
 // Where a label's rest ends: a dot is the label's only where another character of it follows.
@@ -27,6 +29,19 @@ fn label_end(chars: &[u32], at: usize) -> usize
         }
     }
     end
+}
+
+// Whether all the characters are one label.
+pub fn whole_label(chars: &[u32]) -> bool
+    ensures { λ r. ⌜ r ≡ whole (label (now (chars .entry))) ⌝ }
+{
+    if chars.len() == 0 {
+        return false;
+    }
+    if label_first(chars[0]) {
+        return label_end(chars, 1) == chars.len();
+    }
+    false
 }
 
 pub fn blank_node_label(chars: &[u32], at: usize, out: &mut [u8], used: usize) -> Parsed

@@ -2,14 +2,17 @@
 mod characters; // characters.rt: the classes of characters
 mod escape; // escape.rt: UCHAR and ECHAR
 mod label; // label.rt: BLANK_NODE_LABEL
+mod language; // language.rt: LANGTAG
 mod quoted; // quoted.rt: IRIREF and STRING_LITERAL_QUOTE
 mod space; // space.rt: white space
-mod tag; // tag.rt: LANGTAG
 mod values; // values.rt: what reading a token answers
 
 pub use label::blank_node_label;
+pub use label::whole_label;
+pub use language::langtag;
+pub use language::tag;
+pub use quoted::iri;
 pub use quoted::iriref;
 pub use quoted::string_literal_quote;
 pub use space::skip_space;
-pub use tag::langtag;
 pub use values::Parsed;

@@ -50,7 +50,7 @@ fn quoted(chars: &[u32], at: usize, iri: bool, out: &mut [u8], used: usize) -> P
 }
 
 // Whether the decoded bytes of an IRI have a colon and only what may stand in it unescaped.
-fn iri(bytes: &[u8]) -> bool
+pub fn iri(bytes: &[u8]) -> bool
     ensures { λ r. ⌜ r ≡ iri (now (bytes .entry)) ⌝ }
 {
     let mut colon = false;

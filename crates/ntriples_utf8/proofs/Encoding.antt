@@ -11,7 +11,7 @@ use Rattle.ntriples.specs.Utf8.{encode-one}
 use Rattle.ntriples_utf8.specs.Contracts.{Wrote}
 
 -- bytes stored one after the other
-wrote : (old : List ℕ) (at : ℕ) (bytes : List ℕ) → at + length bytes ≤ length old
+pub wrote : (old : List ℕ) (at : ℕ) (bytes : List ℕ) → at + length bytes ≤ length old
     → Wrote old at bytes (sets old at bytes) (at + length bytes)
 wrote old at bytes h =
     let e = length-append (take at old) bytes in

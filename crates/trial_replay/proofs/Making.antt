@@ -19,15 +19,18 @@ use Rattle.driver_refusals.specs.Lent.{Lent, lent}
 use Rattle.driver_run.specs.Run.{Run-result, run-gives}
 use Rattle.driver_turns.specs.Turns.{Turn-result, turn-gives, past, open-gives, pass-gives}
 use Rattle.ntriples.specs.Reading.{Read-result, read-gives}
+use Rattle.ntriples_canonical.specs.Calls.{Write-answer, write-gives}
 use Rattle.trial_buffers.specs.Memory.{cell-from, length-at, Each}
 use Rattle.trial_replay.specs.Made.{numbers-from, bytes-from, give, Held, held, answered, start-made, put-made, narrowed}
 use Rattle.trial_replay.specs.Made.{lookup-made, Run-held, run-held, counted, whole-part, turn-part, run-part, run-lent, run-taken}
-use Rattle.trial_replay.specs.Made.{run-made, Read-held, read-held, read-part, read-lent, read-made, made-on, made-lent, made}
+use Rattle.trial_replay.specs.Made.{run-made, Read-held, read-held, read-part, read-lent, read-made, Write-held, write-held}
+use Rattle.trial_replay.specs.Made.{write-part, write-lent, write-made, made-on, made-lent, made}
 use Rattle.trial_replay.specs.Cells.{table-length-cell, arena-length-cell, term-length-cell, load-length-cell, store-length-cell}
-use Rattle.trial_replay.specs.Cells.{findings-length-cell, work-length-cell, put-kind-cell, lookup-id-cell, terms-cell, used-cell}
-use Rattle.trial_replay.specs.Cells.{id-cell, kind-cell, part-length-cell, count-cell, done-cell, table-cells, arena-cells}
-use Rattle.trial_replay.specs.Cells.{term-cells, part-cells, store-cells, findings-cells, work-cells, load-cells, table-room}
-use Rattle.trial_replay.specs.Cells.{arena-room, term-room, store-room, findings-room, work-room, load-room}
+use Rattle.trial_replay.specs.Cells.{findings-length-cell, work-length-cell, page-length-cell, put-kind-cell, lookup-id-cell}
+use Rattle.trial_replay.specs.Cells.{triples-cell, terms-cell, used-cell, id-cell, kind-cell, part-length-cell, count-cell}
+use Rattle.trial_replay.specs.Cells.{done-cell, text-length-cell, left-out-cell, table-cells, arena-cells, term-cells, part-cells}
+use Rattle.trial_replay.specs.Cells.{store-cells, findings-cells, work-cells, load-cells, table-room, arena-room, term-room}
+use Rattle.trial_replay.specs.Cells.{part-room, store-room, findings-room, work-room, load-room}
 
 -- A ROW FROM THE CELLS
 span-at : (n i : ℕ) (f : ℕ → ℕ) (k : ℕ) → k < n → getD (span n i f) k 0 ≡ f (i + k)
@@ -57,7 +60,7 @@ narrow-fits n h = let q = lt-ltb n 4294967296 h in rw q refl
 pub narrow-not : (n : ℕ) → 4294967296 ≤ n → 0 ≡ narrowed n
 narrow-not n h = let q = le-ltb n 4294967296 h in rw q refl
 
--- THE SEVEN CALLS
+-- THE EIGHT CALLS
 module _ (m table arena : List ℕ) where
   pub start-is : {s : Start-result} → s ≡ start-gives table arena → {m₁ : List ℕ} →
       m₁ ≡ answered m (s .number) (s .contents .terms) (s .contents .used) →
@@ -105,6 +108,13 @@ module _ (m table arena : List ℕ) where
         read-held (held m₂ (r .contents .table) (r .contents .arena)) (r .answer .load) ≡ read-part (held m table arena) file load
     unfolding read-part
     read-is file load e f g = let e₁ = rw c at e in rw (g, f, ← e₁) refl
+
+    pub write-is : (store page : List ℕ) {n : ℕ} → n ≡ getD m triples-cell 0 → {a : Write-answer} →
+        a ≡ write-gives (contents table arena k) store n page → {w : ℕ} → w ≡ narrowed (a .used) → {m₁ m₂ m₃ : List ℕ} →
+        m₁ ≡ set m text-length-cell w → m₂ ≡ set m₁ left-out-cell (a .left) → m₃ ≡ answered m₂ (a .number) (k .terms) (k .used) →
+        write-held (held m₃ table arena) (a .page) ≡ write-part (held m table arena) store page
+    unfolding write-part
+    write-is store page d e n f₁ f₂ f₃ = let e₁ = rw (c, d) at e in let f = rw c at f₃ in rw (f, f₂, f₁, n, ← e₁) refl
 
 -- A CALL THAT IS LENT WHAT A RUN IS, by its number: a pass or an opening call
 module _ (call : ℕ) where
@@ -169,6 +179,21 @@ module _ (h : Held) where
   unfolding read-made
   read-made-is ef el e f₁ = let e₁ = rw (ef, el) at e in rw (f₁, ← e₁) refl
 
+  -- a write in a part of its page
+  pub write-lent-is : (store page : List ℕ) {s p : ℕ} → s ≡ length-at (h .memory) store-length-cell (length store) →
+      p ≡ length-at (h .memory) page-length-cell (length page) → {r : Write-held} → r ≡ write-part h (take s store) (take p page) →
+      write-held (r .held) (r .page ++ drop p page) ≡ write-lent h store page
+  unfolding write-lent
+  write-lent-is store page es ep e = let e₁ = rw (es, ep) at e in rw (ep, ← e₁) refl
+
+  -- which was taken from the cells and is given back
+  pub write-made-is : {store page : List ℕ} → store ≡ numbers-from (h .memory) store-cells store-room →
+      page ≡ bytes-from (h .memory) part-cells part-room → {r : Write-held} → r ≡ write-lent h store page → {m₁ : List ℕ} →
+      m₁ ≡ give (r .held .memory) part-cells (r .page) →
+      held m₁ (r .held .table) (r .held .arena) ≡ write-made h
+  unfolding write-made
+  write-made-is es ep e f₁ = let e₁ = rw (es, ep) at e in rw (f₁, ← e₁) refl
+
 -- THE CALL with a number
 module _ (call : ℕ) (h : Held) {r : Held} where
   pub on-start : call ≡ 0 → r ≡ start-made h → r ≡ made-on call h
@@ -196,25 +221,38 @@ module _ (call : ℕ) (h : Held) {r : Held} where
             rw (q₀, q₁, q₂, q) e
 
         module _ (n₄ : call ≢ 4) where
-          pub on-run : call < 7 → r ≡ run-made call h → r ≡ made-on call h
+          pub on-write : call ≡ 7 → r ≡ write-made h → r ≡ made-on call h
           unfolding made-on
-          on-run l e =
+          on-write z e =
               let q₀ = ne-eqb call 0 n₀ in
               let q₁ = ne-eqb call 1 n₁ in
               let q₂ = ne-eqb call 2 n₂ in
               let q₄ = ne-eqb call 4 n₄ in
-              let q = lt-ltb call 7 l in
+              let q = eq-eqb call 7 z in
               rw (q₀, q₁, q₂, q₄, q) e
 
-          pub on-none : 7 ≤ call → r ≡ h → r ≡ made-on call h
-          unfolding made-on
-          on-none l e =
-              let q₀ = ne-eqb call 0 n₀ in
-              let q₁ = ne-eqb call 1 n₁ in
-              let q₂ = ne-eqb call 2 n₂ in
-              let q₄ = ne-eqb call 4 n₄ in
-              let q = le-ltb call 7 l in
-              rw (q₀, q₁, q₂, q₄, q) e
+          module _ (n₇ : call ≢ 7) where
+            pub on-run : call < 7 → r ≡ run-made call h → r ≡ made-on call h
+            unfolding made-on
+            on-run l e =
+                let q₀ = ne-eqb call 0 n₀ in
+                let q₁ = ne-eqb call 1 n₁ in
+                let q₂ = ne-eqb call 2 n₂ in
+                let q₄ = ne-eqb call 4 n₄ in
+                let q₇ = ne-eqb call 7 n₇ in
+                let q = lt-ltb call 7 l in
+                rw (q₀, q₁, q₂, q₄, q₇, q) e
+
+            pub on-none : 7 ≤ call → r ≡ h → r ≡ made-on call h
+            unfolding made-on
+            on-none l e =
+                let q₀ = ne-eqb call 0 n₀ in
+                let q₁ = ne-eqb call 1 n₁ in
+                let q₂ = ne-eqb call 2 n₂ in
+                let q₄ = ne-eqb call 4 n₄ in
+                let q₇ = ne-eqb call 7 n₇ in
+                let q = le-ltb call 7 l in
+                rw (q₀, q₁, q₂, q₄, q₇, q) e
 
 -- on parts of table and arena
 pub made-lent-is : (call : ℕ) (h : Held) {t a : ℕ} → t ≡ length-at (h .memory) table-length-cell (length (h .table)) →

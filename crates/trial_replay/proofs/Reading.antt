@@ -110,7 +110,7 @@ differed e d = rw e refl
 
 module _ (text : List ℕ) (at : ℕ) (m e : List ℕ) {k d : Read} (ek : k ≡ read-from text at) (ed : d ≡ read-from text (k .at)) where
   pub call-is : {m₁ : List ℕ} → m₁ ≡ made (k .value) m → {g : Bool} → g ≡ same-row m₁ e → {o : Bool} → o ≡ k .ok && d .ok → {n : ℕ} →
-      n ≡ one-if (ltb (k .value) 7) → {b : Bool} → b ≡ difference g (d .value) → {x : ℕ} → x ≡ one-if b →
+      n ≡ one-if (ltb (k .value) 8) → {b : Bool} → b ≡ difference g (d .value) → {x : ℕ} → x ≡ one-if b →
       called (record { at = d .at; ok = o; calls = n; differences = x }) m₁ ≡ call-made text at m e
   unfolding call-made
   call-is em eg eo en eb ex = rw (ex, eb, eg, eo, en, ← ek, ← ed, ← em) refl

@@ -2,7 +2,7 @@
 use Prim.Native.Nat.{ℕ}
 
 -- the cell that holds the length of the table, of the arena, of the term, or of the file of a read, which is in its cells, of the load,
--- of the store, of the findings and of the list work buffer
+-- of the store, of the findings, of the list work buffer, and of the page of a write, which is in the cells of a part
 abbrev pub table-length-cell : ℕ
 table-length-cell = 0
 
@@ -24,12 +24,18 @@ findings-length-cell = 5
 abbrev pub work-length-cell : ℕ
 work-length-cell = 6
 
--- the cells of the arguments: the kind of a put, the id of a lookup
+abbrev pub page-length-cell : ℕ
+page-length-cell = 22
+
+-- the cells of the arguments: the kind of a put, the id of a lookup, how many triples of the store a write is lent
 abbrev pub put-kind-cell : ℕ
 put-kind-cell = 7
 
 abbrev pub lookup-id-cell : ℕ
 lookup-id-cell = 8
+
+abbrev pub triples-cell : ℕ
+triples-cell = 23
 
 -- the counters
 abbrev pub terms-cell : ℕ
@@ -39,7 +45,7 @@ abbrev pub used-cell : ℕ
 used-cell = 10
 
 -- the results: the number, the id of a put, the kind and the length of the part of a lookup, the count of a run or a read, the
--- five counts of a run, whether a run in turns is done
+-- five counts of a run, whether a run in turns is done, the length of the text of a write and the number of triples that it left out
 abbrev pub number-cell : ℕ
 number-cell = 11
 
@@ -60,6 +66,12 @@ counts-cells = 16
 
 abbrev pub done-cell : ℕ
 done-cell = 21
+
+abbrev pub text-length-cell : ℕ
+text-length-cell = 24
+
+abbrev pub left-out-cell : ℕ
+left-out-cell = 25
 
 -- the first cell of each buffer
 abbrev pub table-cells : ℕ
@@ -95,6 +107,9 @@ arena-room = 9600
 
 abbrev pub term-room : ℕ
 term-room = 4100
+
+abbrev pub part-room : ℕ
+part-room = 4100
 
 abbrev pub store-room : ℕ
 store-room = 2100

@@ -11,12 +11,14 @@ use Rattle.driver_refusals.specs.Lent.{Lent, lent}
 use Rattle.driver_run.specs.Run.{run-gives}
 use Rattle.driver_turns.specs.Turns.{turn-gives, past}
 use Rattle.ntriples.specs.Reading.{read-gives}
+use Rattle.ntriples_canonical.specs.Calls.{write-gives}
 use Rattle.trial_buffers.specs.Memory.{cell-from, length-at, given}
 use Rattle.trial_replay.specs.Cells.{table-length-cell, arena-length-cell, term-length-cell, load-length-cell, store-length-cell}
-use Rattle.trial_replay.specs.Cells.{findings-length-cell, work-length-cell, put-kind-cell, lookup-id-cell, terms-cell, used-cell}
-use Rattle.trial_replay.specs.Cells.{number-cell, id-cell, kind-cell, part-length-cell, count-cell, counts-cells, done-cell}
-use Rattle.trial_replay.specs.Cells.{table-cells, arena-cells, term-cells, part-cells, store-cells, findings-cells, work-cells}
-use Rattle.trial_replay.specs.Cells.{load-cells, table-room, arena-room, term-room, store-room, findings-room, work-room, load-room}
+use Rattle.trial_replay.specs.Cells.{findings-length-cell, work-length-cell, page-length-cell, put-kind-cell, lookup-id-cell}
+use Rattle.trial_replay.specs.Cells.{triples-cell, terms-cell, used-cell, number-cell, id-cell, kind-cell, part-length-cell}
+use Rattle.trial_replay.specs.Cells.{count-cell, counts-cells, done-cell, text-length-cell, left-out-cell, table-cells, arena-cells}
+use Rattle.trial_replay.specs.Cells.{term-cells, part-cells, store-cells, findings-cells, work-cells, load-cells, table-room}
+use Rattle.trial_replay.specs.Cells.{arena-room, term-room, part-room, store-room, findings-room, work-room, load-room}
 
 -- n numbers from a cell on, and n bytes
 unfoldable pub numbers-from : List ℕ → ℕ → ℕ → List ℕ
@@ -61,7 +63,7 @@ put-made h bytes =
     let p = put-gives (dictionary h) (term (getD m put-kind-cell 0) (take (length-at m term-length-cell (length bytes)) bytes)) in
     left (set m id-cell (p .id)) (p .number) (p .contents)
 
--- a length as a number of the memory: no part is so long that it is none
+-- a length as a number of the memory: no part and no text is so long that it is none
 abbrev pub narrowed : ℕ → ℕ
 narrowed n = if (ltb n 4294967296) (λ _. n) (λ _. 0)
 
@@ -161,8 +163,39 @@ read-made h =
     let r = read-lent h (bytes-from m term-cells term-room) (numbers-from m load-cells load-room) in
     held (give (r .held .memory) load-cells (r .load)) (r .held .table) (r .held .arena)
 
--- THE CALL with a number, on what it is lent: 0 start, 1 put, 2 lookup, 4 read, and the others below 7, which are 3 run, 5 open and
--- 6 pass; another number makes none
+-- what a write leaves: the memory with the dictionary, and its page
+pub record Write-held : Type 0 where
+  pub held : Held
+  pub page : List ℕ
+
+abbrev pub write-held : Held → List ℕ → Write-held
+write-held h p = record { held = h; page = p }
+
+-- WRITE of the first triples of a store, as many as the memory says, to the page that it is lent
+unfoldable pub write-part : Held → List ℕ → List ℕ → Write-held
+write-part h store page =
+    let m = h .memory in
+    let a = write-gives (dictionary h) store (getD m triples-cell 0) page in
+    let m₁ = set (set m text-length-cell (narrowed (a .used))) left-out-cell (a .left) in
+    write-held (left m₁ (a .number) (dictionary h)) (a .page)
+
+-- as much of the store and of the page as the memory says, the rest of the page as it was
+unfoldable pub write-lent : Held → List ℕ → List ℕ → Write-held
+write-lent h store page =
+    let m = h .memory in
+    let p = length-at m page-length-cell (length page) in
+    let r = write-part h (take (length-at m store-length-cell (length store)) store) (take p page) in
+    write-held (r .held) (r .page ++ drop p page)
+
+-- store and page taken from the cells, the page given back to them: it is in those of a part
+unfoldable pub write-made : Held → Held
+write-made h =
+    let m = h .memory in
+    let r = write-lent h (numbers-from m store-cells store-room) (bytes-from m part-cells part-room) in
+    held (give (r .held .memory) part-cells (r .page)) (r .held .table) (r .held .arena)
+
+-- THE CALL with a number, on what it is lent: 0 start, 1 put, 2 lookup, 4 read, 7 write, and the others below 7, which are 3 run, 5 open
+-- and 6 pass; another number makes none
 unfoldable pub made-on : ℕ → Held → Held
 made-on call h =
     if (eqb call 0)
@@ -171,7 +204,9 @@ made-on call h =
     (λ _. put-made h (bytes-from (h .memory) term-cells term-room))
     (λ _. if (eqb call 2)
     (λ _. lookup-made h)
-    (λ _. if (eqb call 4) (λ _. read-made h) (λ _. if (ltb call 7) (λ _. run-made call h) (λ _. h)))))
+    (λ _. if (eqb call 4)
+    (λ _. read-made h)
+    (λ _. if (eqb call 7) (λ _. write-made h) (λ _. if (ltb call 7) (λ _. run-made call h) (λ _. h))))))
 
 -- as much of table and arena as the memory says, the rest as it was
 unfoldable pub made-lent : ℕ → Held → Held

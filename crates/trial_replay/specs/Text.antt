@@ -100,7 +100,7 @@ call-made text at m e =
     let d = read-from text (k .at) in
     let m₁ = made (k .value) m in
     let x = one-if (difference (same-row m₁ e) (d .value)) in
-    called (record { at = d .at; ok = k .ok && d .ok; calls = one-if (ltb (k .value) 7); differences = x }) m₁
+    called (record { at = d .at; ok = k .ok && d .ok; calls = one-if (ltb (k .value) 8); differences = x }) m₁
 
 -- LINES 5 AND 6
 pub record Memories : Type 0 where

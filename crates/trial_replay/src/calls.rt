@@ -1,4 +1,4 @@
-// The seven calls on a memory: each takes its arguments from the cells, and leaves there what it gives and the buffers as they are after
+// The eight calls on a memory: each takes its arguments from the cells, and leaves there what it gives and the buffers as they are after
 // it.
 use common::Id;
 use dictionary_index::Counters;
@@ -11,6 +11,7 @@ use driver_run::run;
 use driver_turns::TurnNext;
 use driver_turns::open;
 use driver_turns::pass;
+use driver_write::write;
 use trial_buffers::memory::cell;
 use trial_buffers::memory::give_bytes;
 use trial_buffers::memory::give_numbers;
@@ -28,7 +29,8 @@ ghost use Rattle.driver_turns.specs.Values.{turn-leaves};
 ghost use Rattle.trial_replay.specs.Cells.{terms-cell, used-cell, term-cells, term-room};
 ghost use Rattle.trial_replay.specs.Made.{bytes-from, held, answered, counted, start-made, put-made, narrowed, lookup-made};
 ghost use Rattle.trial_replay.specs.Made.{run-held, whole-part, turn-part, run-part, run-lent, run-taken, run-made};
-ghost use Rattle.trial_replay.specs.Made.{read-held, read-part, read-lent, read-made, made-on, made-lent, made};
+ghost use Rattle.trial_replay.specs.Made.{read-held, read-part, read-lent, read-made, write-held, write-part, write-lent};
+ghost use Rattle.trial_replay.specs.Made.{write-made, made-on, made-lent, made};
 
 // Where each buffer begins.
 const TABLE: usize = 32;
@@ -53,6 +55,8 @@ const TABLE_ROOM: usize = 320;
 const ARENA_ROOM: usize = 9600;
 
 const TERM_ROOM: usize = 4100;
+
+const PART_ROOM: usize = 4100;
 
 const STORE_ROOM: usize = 2100;
 
@@ -98,6 +102,14 @@ const COUNT: usize = 15;
 const COUNTS: usize = 16;
 
 const DONE: usize = 21;
+
+const PAGE_LENGTH: usize = 22;
+
+const TRIPLES: usize = 23;
+
+const TEXT_LENGTH: usize = 24;
+
+const LEFT_OUT: usize = 25;
 
 fn counters_in(memory: &[u32]) -> Counters
     ensures { λ r. ⌜ r ≡ record { terms = getD (now (memory .entry)) terms-cell 0; used = getD (now (memory .entry)) used-cell 0 } ⌝ }
@@ -150,7 +162,7 @@ fn make_put(memory: &mut [u32], table: &mut [u32], arena: &mut [u8])
     put_term(memory, table, arena, &term);
 }
 
-// No arena is as long as the numbers of a memory go.
+// No arena, and no page, is as long as the numbers of a memory go.
 fn narrow(length: usize) -> u32
     ensures { λ r. ⌜ r ≡ narrowed length ⌝ }
 {
@@ -384,6 +396,41 @@ fn make_read(memory: &mut [u32], table: &mut [u32], arena: &mut [u8])
     give_numbers(memory, LOAD, &load);
 }
 
+fn write_text(memory: &mut [u32], table: &[u32], arena: &[u8], store: &[u32], page: &mut [u8])
+    ensures { λ _. ⌜ write-held (held (now (memory .exit)) (now (table .entry)) (now (arena .entry))) (now (page .exit))
+        ≡ write-part (held (now (memory .entry)) (now (table .entry)) (now (arena .entry))) (now (store .entry)) (now (page .entry)) ⌝ }
+{
+    let counters = counters_in(&*memory);
+    let triples = cell(&*memory, TRIPLES);
+    let next = write(table, arena, counters, store, triples, page);
+    set_cell(&mut *memory, TEXT_LENGTH, narrow(next.used));
+    set_cell(&mut *memory, LEFT_OUT, next.left);
+    answer(memory, next.number, counters);
+}
+
+// Lends a write as much of the store and of the page as the memory says.
+fn write_lent(memory: &mut [u32], table: &[u32], arena: &[u8], store: &[u32], page: &mut [u8])
+    ensures { λ _. ⌜ write-held (held (now (memory .exit)) (now (table .entry)) (now (arena .entry))) (now (page .exit))
+        ≡ write-lent (held (now (memory .entry)) (now (table .entry)) (now (arena .entry))) (now (store .entry)) (now (page .entry)) ⌝ }
+{
+    let s = length_in(&*memory, STORE_LENGTH, store.len());
+    let p = length_in(&*memory, PAGE_LENGTH, page.len());
+    write_text(memory, table, arena, &store[..s], &mut page[..p]);
+}
+
+// The page of a write is in the cells of a part.
+fn make_write(memory: &mut [u32], table: &[u32], arena: &[u8])
+    ensures { λ _. ⌜ held (now (memory .exit)) (now (table .entry)) (now (arena .entry))
+        ≡ write-made (held (now (memory .entry)) (now (table .entry)) (now (arena .entry))) ⌝ }
+{
+    let mut store = [0u32; STORE_ROOM];
+    let mut page = [0u8; PART_ROOM];
+    take_numbers(&*memory, STORE, &mut store);
+    take_bytes(&*memory, PART, &mut page);
+    write_lent(&mut *memory, table, arena, &store, &mut page);
+    give_bytes(memory, PART, &page);
+}
+
 // The call with a number, on this table and arena.
 fn make_on(call: u32, memory: &mut [u32], table: &mut [u32], arena: &mut [u8])
     ensures { λ _. ⌜ held (now (memory .exit)) (now (table .exit)) (now (arena .exit))
@@ -405,6 +452,10 @@ fn make_on(call: u32, memory: &mut [u32], table: &mut [u32], arena: &mut [u8])
         make_read(&mut *memory, &mut *table, &mut *arena);
         return;
     }
+    if call == 7 {
+        make_write(&mut *memory, &*table, &*arena);
+        return;
+    }
     if call < 7 {
         make_run(call, memory, table, arena);
     }
@@ -420,7 +471,7 @@ fn make_lent(call: u32, memory: &mut [u32], table: &mut [u32], arena: &mut [u8])
     make_on(call, memory, &mut table[..t], &mut arena[..a]);
 }
 
-// Makes the call: 0 start, 1 put, 2 lookup, 3 run, 4 read, 5 open, 6 pass; another number makes none.
+// Makes the call: 0 start, 1 put, 2 lookup, 3 run, 4 read, 5 open, 6 pass, 7 write; another number makes none.
 pub fn make(call: u32, memory: &mut [u32])
     ensures { λ _. ⌜ now (memory .exit) ≡ made call (now (memory .entry)) ⌝ }
 {

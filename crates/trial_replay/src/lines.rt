@@ -137,7 +137,7 @@ fn call(text: &[u8], at: usize, memory: &mut [u32], expected: &[u32]) -> Turn
     Turn {
         at: differs.at,
         ok: both(number.ok, differs.ok),
-        calls: one_if(number.value < 7),
+        calls: one_if(number.value < 8),
         differences: one_if(is_difference(agrees, differs.value)),
     }
 }

@@ -1,5 +1,5 @@
 // Plays a text of calls with what each must give: crates/trial_replay/stdin. README.md has its format, and how it was made.
-mod calls; // calls.rt: the seven calls on a memory
+mod calls; // calls.rt: the eight calls on a memory
 mod lines; // lines.rt: a line of the text
 mod report; // report.rt: what is printed
 
@@ -21,7 +21,7 @@ const CELLS: usize = LOAD + LOAD_ROOM;
 const SAVED: usize = LOAD;
 
 // Room for the text.
-const TEXT: usize = 900000;
+const TEXT: usize = 1000000;
 
 // The line that ends a list.
 const END: u32 = 7;

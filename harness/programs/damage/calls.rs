@@ -24,6 +24,7 @@ pub enum Call {
     Open(Run),
     Pass(Run, Option<usize>),
     Read { file: Vec<u8>, load: Vec<u8> },
+    Write(Write),
 }
 
 /// What a run, an opening call or a pass is lent beside the dictionary.
@@ -33,6 +34,15 @@ pub struct Run {
     pub store: Vec<u8>,
     pub findings: Vec<u8>,
     pub work: Vec<u8>,
+}
+
+/// What a write is lent beside the dictionary, and the dictionary that it was made for, where that is not the scenario's.
+#[derive(Clone, PartialEq, Eq)]
+pub struct Write {
+    pub of: Option<Dictionary>,
+    pub store: Vec<u8>,
+    pub triples: u32,
+    pub page: Vec<u8>,
 }
 
 /// The result's numbers, the refusal first, and every buffer.
@@ -49,12 +59,13 @@ pub enum By {
     Model,
 }
 
-pub const CALLS: [&str; 7] = ["start", "put", "lookup", "run", "open", "pass", "read"];
+pub const CALLS: [&str; 8] = ["start", "put", "lookup", "run", "open", "pass", "read", "write"];
 
-/// The places there of an opening call, a pass and a read.
+/// The places there of an opening call, a pass, a read and a write.
 pub const OPEN: usize = 4;
 pub const PASS: usize = 5;
 pub const READ: usize = 6;
+pub const WRITE: usize = 7;
 
 impl Call {
     /// The place of its name in `CALLS`.
@@ -67,6 +78,7 @@ impl Call {
             Call::Open(_) => OPEN,
             Call::Pass(..) => PASS,
             Call::Read { .. } => READ,
+            Call::Write(_) => WRITE,
         }
     }
 
@@ -90,6 +102,7 @@ pub fn perform(by: By, dictionary: &Dictionary, call: &Call) -> After {
         Call::Open(b) => turn(by, &mut d, b, port::open, ours::open),
         Call::Pass(b, _) => turn(by, &mut d, b, port::pass, ours::pass),
         Call::Read { file, load } => read(by, &mut d, file, load),
+        Call::Write(w) => write(by, &d, w),
     };
     After { result, dictionary: d, call }
 }
@@ -153,6 +166,16 @@ fn read(by: By, d: &mut Dictionary, file: &[u8], load: &mut [u8]) -> Vec<u64> {
     vec![refusal.into(), triples.into()]
 }
 
+fn write(by: By, d: &Dictionary, w: &mut Write) -> Vec<u64> {
+    let (table, arena, terms, used) = (&d.table, &d.arena, d.terms, d.used);
+    let (store, triples, page) = (&w.store, w.triples, &mut w.page);
+    let (refusal, length, left_out) = match by {
+        By::Port => port::write(port::LentToWrite { table, arena, terms, used, store, triples, page }),
+        By::Model => ours::write(ours::LentToWrite { table, arena, terms, used, store, triples, page }),
+    };
+    vec![refusal.into(), length, left_out.into()]
+}
+
 /// A file as text, the middle of a long one left out.
 fn shown(file: &[u8]) -> String {
     let text = |bytes: &[u8]| bytes.escape_ascii().to_string();
@@ -197,6 +220,12 @@ pub fn difference(port: &After, model: &After) -> String {
         buffer("store", &p.store, &m.store);
         buffer("findings", &p.findings, &m.findings);
         buffer("list work buffer", &p.work, &m.work);
+    }
+    if let (Call::Write(p), Call::Write(m)) = (&port.call, &model.call) {
+        buffer("store", &p.store, &m.store);
+        buffer("page", &p.page, &m.page);
+        text += &format!("  page of the port: {}\n  page of the model: {}\n", shown(&p.page), shown(&m.page));
+        return text;
     }
     if let (Call::Read { file: p_file, load: p }, Call::Read { file, load }) = (&port.call, &model.call) {
         buffer("load", p, load);

@@ -100,7 +100,7 @@ const UTF8: &[&[u8]] = &[
     b"\xfc\x84\x80\x80\x80\x80", b"\xfe", b"\xff",
 ];
 
-fn utf8(r: &mut Random) -> Vec<u8> {
+pub fn utf8(r: &mut Random) -> Vec<u8> {
     let mut bytes = r.pick(UTF8).to_vec();
     if r.percent(30) {
         let at = r.below(bytes.len());
@@ -109,24 +109,28 @@ fn utf8(r: &mut Random) -> Vec<u8> {
     bytes
 }
 
-/// A blank node whose label has a character at the edge of a range, one beside it, or any, first, last or between others.
+/// A blank node with such a label.
 pub fn with_label(r: &mut Random) -> String {
+    let (label, gap) = (label(r), gap(r));
+    match r.below(2) {
+        0 => format!("_:{label}{gap}<a:b>{gap}<a:c>{gap}."),
+        _ => format!("<a:b>{gap}<a:c>{gap}_:{label}{gap}."),
+    }
+}
+
+/// A character at the edge of a range of labels, one beside it, or any, first, last or between others.
+pub fn label(r: &mut Random) -> String {
     let (first, last) = r.pick(&[&PN_CHARS_BASE[..], &PN_CHARS_MORE, &[('_', '_'), (':', ':'), ('.', '.')]].concat());
     let (first, last) = (u32::from(first), u32::from(last));
     let number = if r.percent(20) { r.below(0x11_0000) as u32 } else { r.pick(&[first - 1, first, last, last + 1]) };
     let c = char::from_u32(number).unwrap_or('.');
-    let label = match r.below(6) {
+    match r.below(6) {
         0 => format!("{c}"),
         1 => format!("{c}a"),
         2 => format!("a{c}"),
         3 => format!("a{c}b"),
         4 => format!("a.{c}"),
         _ => format!("a{c}.b"),
-    };
-    let gap = gap(r);
-    match r.below(2) {
-        0 => format!("_:{label}{gap}<a:b>{gap}<a:c>{gap}."),
-        _ => format!("<a:b>{gap}<a:c>{gap}_:{label}{gap}."),
     }
 }
 

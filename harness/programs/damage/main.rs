@@ -1,11 +1,12 @@
 //! damage N [SEED]: N calls on valid and on damaged input, the port against the reference model, inside and outside demand 2's
 //! domain: every number of the result and every buffer, byte for byte. Exit status 1 where there is a difference.
 //!
-//! The calls come in scenarios of up to 20: a start, then puts, lookups, runs, opening calls, passes and reads, each lent the dictionary as
-//! the one before left it; a third of them are lent a damaged copy instead, and reads, opening calls and passes also the same terms with
-//! just the room that they need. Passes are lent stores that passes leave, and changed ones (stores.rs). `damage files` goes through all
-//! changes of one byte of a small file instead (every.rs), and `damage turns N [SEED]` through N runs in turns (sequences.rs). ITEM=K in
-//! the environment performs scenario K alone, and says what it does; FIRST=1 ends at the first difference.
+//! The calls come in scenarios of up to 20: a start, then puts, lookups, runs, opening calls, passes, reads and writes, each lent the
+//! dictionary as the one before left it; a third of them are lent a damaged copy instead, and reads, opening calls and passes also the
+//! same terms with just the room that they need. Passes are lent stores that passes leave, and changed ones (stores.rs); most writes are
+//! lent dictionaries with terms of any bytes (terms.rs), and what the port wrote it reads again (writes.rs). `damage files` goes through
+//! all changes of one byte of a small file instead (every.rs), and `damage turns N [SEED]` through N runs in turns (sequences.rs). ITEM=K
+//! in the environment performs scenario K alone, and says what it does; FIRST=1 ends at the first difference.
 
 mod broken;
 mod calls;
@@ -18,9 +19,11 @@ mod sequences;
 mod stores;
 #[path = "../support.rs"]
 mod support;
+mod terms;
 mod turns;
+mod writes;
 
-use calls::{difference, perform, By, Call, Dictionary, Run, CALLS, OPEN, PASS, READ};
+use calls::{difference, perform, By, Call, Dictionary, Run, CALLS, OPEN, PASS, READ, WRITE};
 use generate::Random;
 use std::sync::Mutex;
 
@@ -33,12 +36,13 @@ const LIMITS_EVERY: u64 = 1_000;
 const ENOUGH: u64 = 20_000;
 
 /// The refusals are numbers below this.
-const NUMBERS: usize = 15;
+const NUMBERS: usize = 16;
 
-/// Those of a read, of an opening call and of a pass.
+/// Those of a read, of an opening call, of a pass and of a write.
 const OF_A_READ: [usize; 7] = [1, 2, 3, 7, 11, 13, 14];
 const OF_AN_OPENING: [usize; 8] = [1, 2, 3, 4, 5, 6, 7, 8];
 const OF_A_PASS: [usize; 9] = [1, 2, 3, 4, 5, 6, 7, 8, 9];
+const OF_A_WRITE: [usize; 4] = [1, 4, 6, 15];
 
 struct Tally {
     calls: u64,
@@ -48,6 +52,8 @@ struct Tally {
     damaged: Vec<[u64; 2]>,
     /// By kind of change to the store of a pass: refused with 4, with another number, and accepted.
     changed: Vec<[u64; 3]>,
+    /// Texts that were read again, their triples, and the triples that were left out.
+    written: [u64; 3],
     differences: u64,
 }
 
@@ -63,12 +69,25 @@ impl Tally {
         }
     }
 
+    /// What the text of an accepted write gave when it was read again; says what was not as it has to be.
+    fn count_written(&mut self, again: Result<Option<usize>, String>, left_out: u64) -> Option<String> {
+        self.written[2] += left_out;
+        let triples = match again {
+            Ok(triples) => triples?,
+            Err(how) => return Some(how),
+        };
+        self.written[0] += 1;
+        self.written[1] += triples as u64;
+        None
+    }
+
     fn met_all(&self) -> bool {
         let met = |call: usize, refusals: &[usize]| refusals.iter().all(|k| self.met[call][*k] > 0);
         (1..NUMBERS).all(|k| self.met.iter().any(|row| row[k] > 0))
             && met(READ, &OF_A_READ)
             && met(OPEN, &OF_AN_OPENING)
             && met(PASS, &OF_A_PASS)
+            && met(WRITE, &OF_A_WRITE)
     }
 }
 
@@ -83,7 +102,8 @@ fn main() {
     let only: Option<u64> = std::env::var("ITEM").ok().and_then(|k| k.parse().ok());
     let first = std::env::var_os("FIRST").is_some();
     let (damaged, changed) = (vec![[0; 2]; broken::KINDS.len()], vec![[0; 3]; stores::CHANGES.len()]);
-    let tally = Mutex::new(Tally { calls: 0, met: [[0; NUMBERS]; CALLS.len()], damaged, changed, differences: 0 });
+    let met = [[0; NUMBERS]; CALLS.len()];
+    let tally = Mutex::new(Tally { calls: 0, met, damaged, changed, written: [0; 3], differences: 0 });
     support::in_parallel(u64::MAX, |item| {
         let ended = |t: &Tally| t.calls >= n || (first && t.differences > 0);
         if ended(&tally.lock().expect("the tally")) || (only.is_some() && item > 0) {
@@ -107,6 +127,8 @@ fn print(tally: &Tally) {
         let met: String = (0..NUMBERS).filter(|k| row[*k] > 0).map(|k| format!("  {k}: {}", row[k])).collect();
         println!("{name:7}{met}");
     }
+    let [texts, triples, left_out] = tally.written;
+    println!("texts of the port that it read again: {texts}, with {triples} triples; {left_out} triples left out");
     println!("damaged dictionaries, refused with 1 and not:");
     for ((name, _), [broken, not]) in broken::KINDS.iter().zip(&tally.damaged) {
         println!("  {name}: {broken}, {not}");
@@ -135,6 +157,8 @@ fn scenario_of(item: u64, seed: u64, n: u64, tell: bool, tally: &Mutex<Tally>) {
             println!("call {k}: {}", CALLS[call.number()]);
         }
         let [port, model] = [By::Port, By::Model].map(|by| perform(by, lent.as_ref().unwrap_or(&d), &call));
+        let again = (call.number() == WRITE && port == model && port.result[0] == 0)
+            .then(|| writes::read_again(lent.as_ref().unwrap_or(&d), &port));
         if lent.is_none() {
             d = model.dictionary.clone();
         }
@@ -149,19 +173,26 @@ fn scenario_of(item: u64, seed: u64, n: u64, tell: bool, tally: &Mutex<Tally>) {
             return;
         }
         t.count(&call, damage, model.result[0] as usize);
-        if port != model {
+        let unlike = again.and_then(|again| t.count_written(again, model.result[2]));
+        if port != model || unlike.is_some() {
             t.differences += 1;
             let lent_how = damage.map_or(String::new(), |kind| format!(", damaged: {}", broken::KINDS[kind].0));
             println!("difference in scenario {item} of seed {seed}, call {k}, {}{lent_how}", CALLS[call.number()]);
             print!("{}", difference(&port, &model));
+            unlike.iter().for_each(|how| println!("  read again: {how}"));
         }
     }
 }
 
 /// The dictionary that the call is lent in place of the scenario's own, where it is another.
 fn another(d: &Dictionary, call: &Call, damage: Option<usize>, limits: bool, r: &mut Random) -> Option<Dictionary> {
+    let of = match call {
+        Call::Write(write) => write.of.as_ref(),
+        _ => None,
+    };
     match (damage, call) {
-        (Some(kind), _) => Some(damaged(d, kind, r)),
+        (Some(kind), _) => Some(damaged(of.unwrap_or(d), kind, r)),
+        (None, Call::Write(_)) => of.cloned(),
         (None, Call::Read { file, .. }) if !limits && r.percent(70) => reads::fitted(d, file, r),
         (None, Call::Open(_) | Call::Pass(..)) if !limits && r.percent(25) => turns::fitted(d, r),
         (None, _) => None,

@@ -3,6 +3,7 @@
 use crate::calls::{Call, Dictionary, Run};
 use crate::reads;
 use crate::turns;
+use crate::writes;
 use generate::{names, small, Random, FIRST};
 use model::calls::starting_triples;
 use model::dictionary::{self as dict, Term};
@@ -84,14 +85,15 @@ pub fn laid_out(terms: &[Term], table: usize, arena: usize) -> Dictionary {
 
 /// A call on the dictionary; `last` is what the last opening call or pass that was accepted left.
 pub fn call(d: &Dictionary, last: Option<&Run>, r: &mut Random) -> Call {
-    match r.below(100) {
+    match r.below(118) {
         0..=1 => Call::Start,
         2..=15 => put(d, r),
         16..=19 => lookup(d, r),
         20..=43 => Call::Run(run(d, r)),
         44..=50 => Call::Open(turns::open(d, r)),
         51..=69 => turns::pass(d, last, r),
-        _ => reads::read(r),
+        70..=99 => reads::read(r),
+        _ => writes::write(d, r),
     }
 }
 
@@ -111,11 +113,11 @@ pub fn put(d: &Dictionary, r: &mut Random) -> Call {
         7 => vec![b'y'; left + 1],
         8 => vec![0xff; r.below(9)],
         9..=14 => (0..r.below(4)).map(|_| r.pick(b"abc")).collect(),
-        15..=17 => format!(
-            "http://www.w3.org/1999/02/22-rdf-syntax-ns#_{}",
-            r.pick(&["1", "01", "0", "", "18446744073709551615", "18446744073709551616", "3a"])
-        )
-        .into_bytes(),
+        15..=18 => {
+            let digits = ["1", "1", "01", "0", "", "18446744073709551615", "18446744073709551616", "3a"];
+            let bytes = format!("http://www.w3.org/1999/02/22-rdf-syntax-ns#_{}", r.pick(&digits)).into_bytes();
+            return Call::Put { kind: if r.percent(80) { dict::NAMED_NODE } else { kind }, bytes };
+        }
         _ => format!("urn:t{}", r.between(1, 15)).into_bytes(),
     };
     Call::Put { kind, bytes }

@@ -47,6 +47,9 @@ pub const CHANGES: &[(&str, Change)] = &[
     ("no rows", |store, _| store.rows.clear()),
 ];
 
+/// The place there of the container properties, which few dictionaries have.
+pub const CONTAINERS: usize = 17;
+
 fn at(store: &Changed, r: &mut Random) -> Option<usize> {
     (!store.rows.is_empty()).then(|| r.below(store.rows.len()))
 }

@@ -2,11 +2,11 @@
 
 use crate::calls::{Call, Dictionary, Run};
 use crate::scenario::{held, is_known, laid_out, lent, loaded, with_run_terms, MOST_CLOSED};
-use crate::stores::{Changed, CHANGES};
+use crate::stores::{Changed, CHANGES, CONTAINERS};
 use generate::Random;
 use model::calls::starting_triples;
 use model::closure::{check, close_rows};
-use model::dictionary::{bytes_of, Term};
+use model::dictionary::{bytes_of, is_container_property, Term};
 use model::rows::{answer, triples, Record};
 use model::turns::{held_rows, opening_rows, pass_rows, takes};
 use model::{Triple, LOAD_LIMIT, STORE_LIMIT};
@@ -55,7 +55,8 @@ pub fn pass(d: &Dictionary, last: Option<&Run>, r: &mut Random) -> Call {
         (load, rows) = (Vec::new(), rows_at_the_limit(all.len(), r));
     }
     let mut store = Changed { rows, load, before: count, terms: all };
-    let kind = r.percent(50).then(|| r.below(CHANGES.len()));
+    let containers = store.terms.iter().any(is_container_property) && r.percent(30);
+    let kind = if containers { Some(CONTAINERS) } else { r.percent(50).then(|| r.below(CHANGES.len())) };
     if let Some(kind) = kind {
         (CHANGES[kind].1)(&mut store, r);
     }

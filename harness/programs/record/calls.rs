@@ -4,7 +4,7 @@ use crate::memory::*;
 use crate::text::Text;
 use model::{LOAD_WIDTH, STORE_WIDTH};
 
-/// What a lent buffer holds before a run or a read, so that a number left alone shows.
+/// What a lent buffer holds before a run, a read or a write, so that a number left alone shows.
 const MARK: u32 = 7;
 
 /// What a run is lent beside the dictionary: a load, and so many numbers of store, findings and list work buffer.
@@ -252,7 +252,7 @@ pub fn pass_none(text: &mut Text, number: u32, after: Counters) {
     }
 }
 
-/// Numbers of the load behind what a read is lent: it has to leave them alone.
+/// Numbers of the load behind what a read is lent, and of the page behind what a write is lent: they have to be left alone.
 const BEHIND: usize = 3;
 
 /// A read of a file into a load of so many numbers that answers the number and the triple count, and leaves these counters.
@@ -287,6 +287,57 @@ pub fn read_none(text: &mut Text, file: &[u8], load: usize, number: u32) {
     }
     let left = if number < 3 { MARK } else { 0 };
     assert!(text.memory().lent(LOAD).iter().all(|n| *n == left), "a load of {left}");
+}
+
+/// A write of the first triples of a store to a page of so many bytes that answers the number, the text's length and the number of triples
+/// left out, and changes nothing but the page.
+#[track_caller]
+fn write(text: &mut Text, store: &[Row], triples: u32, page: usize, [number, length, left_out]: [u32; 3]) {
+    text.change(|m| {
+        m.lend(STORE, store.as_flattened());
+        m.0[TRIPLES] = triples;
+        m.lend(PAGE, &vec![MARK; page + BEHIND]);
+        m.lend_first(PAGE, page);
+    });
+    write_lent(text, [number, length, left_out]);
+}
+
+/// The same with what is lent already.
+#[track_caller]
+fn write_lent(text: &mut Text, [number, length, left_out]: [u32; 3]) {
+    let before = text.memory().clone();
+    text.call(Call::Write);
+    is_number(text, number);
+    assert_eq!(text.memory().0[TEXT_LENGTH], length, "the text's length");
+    assert_eq!(text.memory().0[LEFT_OUT], left_out, "the triples left out");
+    counters(text, before.counters());
+    for r in [TABLE, ARENA, STORE] {
+        assert_eq!(before.lent(r), text.memory().lent(r), "a buffer changed");
+    }
+    let end = PAGE.first + before.lent(PAGE).len();
+    assert_eq!(text.memory().0[end..][..BEHIND], before.0[end..][..BEHIND], "what is not lent");
+}
+
+/// A write that is accepted: the text, then zeros.
+#[track_caller]
+pub fn write_all(text: &mut Text, store: &[Row], triples: u32, page: usize, due: &[u8], left_out: u32) {
+    write(text, store, triples, page, [0, due.len() as u32, left_out]);
+    holds(text, PAGE, &due.iter().map(|b| u32::from(*b)).collect::<Vec<_>>());
+}
+
+/// A write that is refused: the page is as before by 1, 4 and 6, and all zero by 15.
+#[track_caller]
+pub fn write_none(text: &mut Text, store: &[Row], triples: u32, page: usize, number: u32) {
+    write(text, store, triples, page, [number, 0, 0]);
+    let left = if number == 15 { 0 } else { MARK };
+    assert!(text.memory().lent(PAGE).iter().all(|n| *n == left), "a page of {left}");
+}
+
+/// The same for a store of so many numbers, which is refused with 4 or, where the dictionary is broken, with 1.
+#[track_caller]
+pub fn write_ragged(text: &mut Text, numbers: usize, number: u32) {
+    text.change(|m| m.lend_first(STORE, numbers));
+    write_lent(text, [number, 0, 0]);
 }
 
 /// The number at a place of the table.

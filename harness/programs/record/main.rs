@@ -15,11 +15,12 @@ mod tables;
 mod text;
 mod turns;
 mod w3c;
+mod writes;
 
 use text::Text;
 
 /// The bytes that program trial_replay has room for.
-const ROOM: usize = 900_000;
+const ROOM: usize = 1_000_000;
 
 fn main() {
     let Some(folder) = std::env::args().nth(1) else {
@@ -36,6 +37,7 @@ fn main() {
     turns::lists(&mut text);
     files::lists(&mut text);
     w3c::tests(&mut text);
+    writes::lists(&mut text);
     let before = models::prepare(&mut text);
     models::models(&mut text, "models after the tables of OWL 2 Profiles, and lists", &cases, &before);
     models::models(&mut text, "random models inside the domain, by the original", &inside, &before);

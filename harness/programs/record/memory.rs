@@ -1,7 +1,8 @@
-//! The memory that the text's calls read and write, and the seven calls on it, made by the reference model.
+//! The memory that the text's calls read and write, and the eight calls on it, made by the reference model.
 
 use model::calls::{self, Buffers, Dictionary};
 use model::turns::{self, Turn};
+use model::writing;
 
 /// Registers; the lengths of the lent parts are named by their regions.
 pub const KIND: usize = 7;
@@ -15,6 +16,10 @@ const PART_LENGTH: usize = 14;
 pub const COUNT: usize = 15;
 pub const COUNTS: usize = 16;
 pub const DONE: usize = 21;
+const PAGE_LENGTH: usize = 22;
+pub const TRIPLES: usize = 23;
+pub const TEXT_LENGTH: usize = 24;
+pub const LEFT_OUT: usize = 25;
 
 /// Cells from `first` on, of which a call is lent as many as a register says.
 #[derive(Clone, Copy)]
@@ -42,6 +47,9 @@ pub const STORE: Region = region(18_152, 2_100, 4);
 pub const FINDINGS: Region = region(20_252, 500, 5);
 pub const WORK: Region = region(20_752, 200, 6);
 pub const LOAD: Region = region(20_952, 49_160, 3);
+
+/// The page of a write is in the cells of a part.
+pub const PAGE: Region = region(PART.first, PART.size, PAGE_LENGTH);
 
 /// All cells: the registers, which are no lent part, then the others.
 pub const REGIONS: [Region; 9] = [region(0, 32, 31), TABLE, ARENA, TERM, PART, STORE, FINDINGS, WORK, LOAD];
@@ -93,6 +101,7 @@ pub enum Call {
     Read,
     Open,
     Pass,
+    Write,
 }
 
 /// The dictionary that a call is lent.
@@ -132,10 +141,18 @@ pub fn perform(call: Call, m: &mut Memory) {
             (m.0[NUMBER], m.0[COUNT]) = calls::read(held.lend(), &file, &mut load);
             m.lend(LOAD, &load);
         }
+        Call::Write => write(held.lend(), m),
     }
     m.lend(TABLE, &held.table);
     m.lend_bytes(ARENA, &held.arena);
     (m.0[TERMS], m.0[USED]) = (held.terms, held.used);
+}
+
+fn write(d: Dictionary, m: &mut Memory) {
+    let (store, mut page) = (m.lent(STORE).to_vec(), m.lent_bytes(PAGE));
+    let (number, length, left_out) = writing::write(d, &store, m.0[TRIPLES], &mut page);
+    (m.0[NUMBER], m.0[TEXT_LENGTH], m.0[LEFT_OUT]) = (number, length as u32, left_out);
+    m.lend_bytes(PAGE, &page);
 }
 
 fn run(d: Dictionary, m: &mut Memory) {

@@ -25,7 +25,7 @@ enum Piece {
 const LINE: usize = 9;
 
 /// The number in a call's place with which none is made.
-const NO_CALL: usize = 7;
+const NO_CALL: usize = 8;
 
 impl Text {
     pub fn new() -> Text {

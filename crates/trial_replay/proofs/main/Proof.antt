@@ -7,7 +7,7 @@ use Rattle.trial_replay.proofs.main.Statement.{statement}
 use Rattle.trial_replay.proofs.main.Tie as tie
 
 slice-aggregate-play-input : tie.Need-slice-aggregate-play-input
-slice-aggregate-play-input c = sym (length-replicate {A = ℕ} 900000 0)
+slice-aggregate-play-input c = sym (length-replicate {A = ℕ} 1000000 0)
 
 play-input-requires : tie.Need-play-input-requires
 play-input-requires c κs = search needs

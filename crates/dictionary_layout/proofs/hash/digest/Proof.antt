@@ -34,13 +34,13 @@ add-sum c =
       c .wide .ensures,
     )
 
-mul-hash : tie.Need-mul-hash Inv-loop μ-loop
-mul-hash c =
-    let at-loop = c .before .before .before in
-    omega (arith, at-loop .loop .inv .below)
-
 add-hash : tie.Need-add-hash Inv-loop μ-loop
 add-hash c =
+    let at-loop = c .before .before .before in
+    omega (arith, at-loop .loop .inv .below, c .before .shared-slice-known2 .given (at-loop .loop .i), c .wide .ensures)
+
+mul-hash : tie.Need-mul-hash Inv-loop μ-loop
+mul-hash c =
     let at-loop = c .before .before .before in
     omega (arith, at-loop .loop .inv .below, c .before .shared-slice-known2 .given (at-loop .loop .i), c .wide .ensures)
 
@@ -70,8 +70,8 @@ digest-spec =
     shared-slice-read-wide
     wide-requires
     add-sum
-    mul-hash
     add-hash
+    mul-hash
     add-i
     loop-less
     loop-again

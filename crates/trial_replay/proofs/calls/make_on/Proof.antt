@@ -2,7 +2,7 @@
 use borrow.Author.Needs.{needs}
 use mathlib.Core.Path.{refl}
 use Rattle.trial_replay.specs.Made.{held}
-use Rattle.trial_replay.proofs.Making.{on-start, on-put, on-lookup, on-run, on-read, on-none}
+use Rattle.trial_replay.proofs.Making.{on-start, on-put, on-lookup, on-run, on-read, on-write, on-none}
 use Rattle.trial_replay.proofs.calls.make_on.Statement.{statement}
 use Rattle.trial_replay.proofs.calls.make_on.Tie as tie
 
@@ -96,8 +96,8 @@ returns-4 c =
     on-read (args .call) (held (args .memory .now) (args .table .now) (args .arena .now)) (at-if1 .if1 .left) (at-if2 .if2 .left)
     (at-if3 .if3 .left) (at-if4 .if4 .taken) (after-make-read .make-read .ensures)
 
-make-run-requires : tie.Need-make-run-requires
-make-run-requires c κs = search needs
+make-write-requires : tie.Need-make-write-requires
+make-write-requires c κs = search needs
 
 same-length-13 : tie.Need-same-length-13
 same-length-13 c = search needs
@@ -110,8 +110,34 @@ same-length-15 c = search needs
 
 returns-5 : tie.Need-returns-5
 returns-5 c =
+    let after-make-write = c .before .before in
+    let at-if5 = after-make-write .before .before .before .before in
+    let at-if4 = at-if5 .before in
+    let at-if3 = at-if4 .before in
+    let at-if2 = at-if3 .before in
+    let at-if1 = at-if2 .before in
+    let at-start = at-if1 .before .before .before .before in
+    let args = at-start .args in
+    on-write (args .call) (held (args .memory .now) (args .table .now) (args .arena .now)) (at-if1 .if1 .left) (at-if2 .if2 .left)
+    (at-if3 .if3 .left) (at-if4 .if4 .left) (at-if5 .if5 .taken) (after-make-write .make-write .ensures)
+
+make-run-requires : tie.Need-make-run-requires
+make-run-requires c κs = search needs
+
+same-length-16 : tie.Need-same-length-16
+same-length-16 c = search needs
+
+same-length-17 : tie.Need-same-length-17
+same-length-17 c = search needs
+
+same-length-18 : tie.Need-same-length-18
+same-length-18 c = search needs
+
+returns-6 : tie.Need-returns-6
+returns-6 c =
     let after-make-run = c .before .before .before .before .before .before in
-    let at-if5 = after-make-run .before .before .before .before in
+    let at-if6 = after-make-run .before .before .before .before in
+    let at-if5 = at-if6 .before in
     let at-if4 = at-if5 .before in
     let at-if3 = at-if4 .before in
     let at-if2 = at-if3 .before in
@@ -119,17 +145,18 @@ returns-5 c =
     let at-start = at-if1 .before .before .before .before in
     let args = at-start .args in
     on-run (args .call) (held (args .memory .now) (args .table .now) (args .arena .now)) (at-if1 .if1 .left) (at-if2 .if2 .left)
-    (at-if3 .if3 .left) (at-if4 .if4 .left) (at-if5 .if5 .taken) (after-make-run .make-run .ensures)
+    (at-if3 .if3 .left) (at-if4 .if4 .left) (at-if5 .if5 .left) (at-if6 .if6 .taken) (after-make-run .make-run .ensures)
 
-returns-6 : tie.Need-returns-6
-returns-6 c =
-    let at-if3 = c .before .before in
+returns-7 : tie.Need-returns-7
+returns-7 c =
+    let at-if4 = c .before .before in
+    let at-if3 = at-if4 .before in
     let at-if2 = at-if3 .before in
     let at-if1 = at-if2 .before in
     let at-start = at-if1 .before .before .before .before in
     let args = at-start .args in
     on-none (args .call) (held (args .memory .now) (args .table .now) (args .arena .now)) (at-if1 .if1 .left) (at-if2 .if2 .left)
-    (at-if3 .if3 .left) (c .before .if4 .left) (c .if5 .left) refl
+    (at-if3 .if3 .left) (at-if4 .if4 .left) (c .before .if5 .left) (c .if6 .left) refl
 
 pub make-on-spec : {M : Type 1} → statement M
 make-on-spec =
@@ -155,9 +182,14 @@ make-on-spec =
     same-length-11
     same-length-12
     returns-4
-    make-run-requires
+    make-write-requires
     same-length-13
     same-length-14
     same-length-15
     returns-5
-    returns-6)
+    make-run-requires
+    same-length-16
+    same-length-17
+    same-length-18
+    returns-6
+    returns-7)

@@ -1,0 +1,5 @@
+pub mod Entries
+pub mod Texts
+pub mod Writing
+pub mod Measuring
+pub mod Outcomes

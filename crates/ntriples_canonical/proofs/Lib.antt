@@ -1,0 +1,10 @@
+pub mod Cases
+pub mod Tokens
+pub mod Nodes
+pub mod Lines
+pub mod Given
+pub mod Bytes
+pub mod Lengths
+pub mod Puts
+pub mod Files
+pub mod RoundTrip

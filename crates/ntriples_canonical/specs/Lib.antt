@@ -1,0 +1,4 @@
+pub mod Writing
+pub mod Calls
+pub mod RoundTrip
+pub mod Cases
