@@ -1,4 +1,6 @@
 // Program closer: reads a model from standard input and prints its closure with the findings, or why there is none.
+#![tactic(auto)]
+
 fn main() {
     let mut input = [0u8; edge_closer_run::INPUT];
     let mut out = [0u8; edge_closer_text::OUTPUT];

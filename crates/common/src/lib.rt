@@ -1,5 +1,7 @@
 // Ids, triples and the vocabulary, as common.rs has them, widths and limits, and the clearing of a buffer. The definitions that every
 // crate cites are in specs/ beside it, and the theorems about them in proofs/.
+#![tactic(auto)]
+
 ghost use Rattle.std.specs.Prelude.{◌≡◌};
 ghost use Rattle.common.specs.Vocabulary.{vocabulary};
 ghost use Rattle.common.specs.Rows.{cleared};
@@ -38,10 +40,10 @@ pub const RUN_TERMS: usize = 3;
 pub const WORK_WIDTH: usize = 2;
 
 // A term's id. A place in the list work buffer is another type, and so is a count.
-#[derive(Drop)]
+#[derive(Clone, Copy)]
 pub struct Id(pub u32);
 
-#[derive(Drop)]
+#[derive(Clone, Copy)]
 pub struct Triple {
     pub s: Id,
     pub p: Id,
@@ -49,7 +51,7 @@ pub struct Triple {
 }
 
 // A row of a store: a triple, the pass in which it came in, and the rule that brought it in; both 0 for a starting triple.
-#[derive(Drop)]
+#[derive(Clone, Copy)]
 pub struct Row {
     pub it: Triple,
     pub pass: u32,
@@ -57,7 +59,7 @@ pub struct Row {
 }
 
 // The ids of the thirty terms that a start puts.
-#[derive(Drop)]
+#[derive(Clone, Copy)]
 pub struct Vocab;
 
 impl Vocab {

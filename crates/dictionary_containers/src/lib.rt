@@ -1,4 +1,6 @@
 // Container properties: named nodes of the rdf namespace whose local name is `_` and a number.
+#![tactic(auto)]
+
 ghost use Rattle.std.specs.Prelude.{◌≡◌, ◌≤◌, T, length, drop};
 ghost use Rattle.common.specs.Digits.{all_digits};
 ghost use Rattle.dictionary_containers.specs.Containers.{starts_with, is_container_term, is_container};

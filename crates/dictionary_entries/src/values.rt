@@ -1,5 +1,5 @@
 // Where a name ends, and where the next begins.
-#[derive(Drop)]
+#[derive(Clone, Copy)]
 pub struct Word {
     pub end: usize,
     pub next: usize,

@@ -1,4 +1,6 @@
 // A hash over the entries of a dictionary, their terms by buckets: entered, and searched for the entry that names a term.
+#![tactic(auto)]
+
 ghost use Rattle.std.specs.Prelude.{◌≡◌, ◌<◌, length};
 ghost use Rattle.dictionary_layout.specs.Terms.{term};
 ghost use Rattle.dictionary_layout.specs.Digest.{bucket_count};

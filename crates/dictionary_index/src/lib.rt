@@ -1,4 +1,6 @@
 // The dictionary, as index.rs has it: start, put and lookup, for all inputs.
+#![tactic(auto)]
+
 mod inner; // inner.rt: put, and where a term lies, where the contents are known to be a dictionary's
 mod values; // values.rt: what the calls answer
 

@@ -3,21 +3,21 @@ use common::Id;
 use dictionary_layout::Counters;
 
 // What a start answers.
-#[derive(Drop)]
+#[derive(Clone, Copy)]
 pub struct Started {
     pub number: u32,
     pub counters: Counters,
 }
 
 // What a put answers.
-#[derive(Drop)]
+#[derive(Clone, Copy)]
 pub struct Put {
     pub number: u32,
     pub id: Id,
 }
 
 // What a put by value answers, with the counters as they are afterwards.
-#[derive(Drop)]
+#[derive(Clone, Copy)]
 pub struct PutNext {
     pub number: u32,
     pub id: Id,
@@ -25,7 +25,7 @@ pub struct PutNext {
 }
 
 // Where a term lies in the arena, and its kind.
-#[derive(Drop)]
+#[derive(Clone, Copy)]
 pub struct Located {
     pub number: u32,
     pub kind: u32,

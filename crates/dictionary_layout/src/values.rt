@@ -12,14 +12,14 @@ pub const START_TABLE: usize = HEADS_WIDTH + ENTRY_WIDTH * START_COUNT;
 pub const BUCKET_COUNT: usize = 65536;
 
 // How many terms there are, and how many arena bytes they use.
-#[derive(Drop)]
+#[derive(Clone, Copy)]
 pub struct Counters {
     pub terms: u32,
     pub used: u32,
 }
 
 // A term's chain, and its bucket in the hash of the terms.
-#[derive(Drop)]
+#[derive(Clone, Copy)]
 pub struct Digest {
     pub chain: usize,
     pub bucket: usize,

@@ -1,4 +1,6 @@
 // Many puts after one test for a broken dictionary: an index over its terms, puts that find their term by it, and terms taken back.
+#![tactic(auto)]
+
 ghost use Rattle.std.specs.Prelude.{◌≡◌, ◌-◌, ◌≤◌, ◌<◌, T, replicate};
 ghost use Rattle.dictionary_layout.specs.Terms.{term, start_count};
 ghost use Rattle.dictionary_layout.specs.Dictionary.{valid};

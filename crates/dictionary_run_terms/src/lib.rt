@@ -1,4 +1,6 @@
 // The three terms that a run puts, all or none.
+#![tactic(auto)]
+
 mod values; // values.rt: what their put answers
 
 ghost use Rattle.std.specs.Prelude.{◌≡◌, T, length};

@@ -3,7 +3,7 @@ use common::Id;
 use dictionary_layout::Counters;
 
 // The ids of the three terms that a run puts.
-#[derive(Drop)]
+#[derive(Clone, Copy)]
 pub struct RunTermIds {
     pub property: Id,
     pub membership: Id,
@@ -11,7 +11,7 @@ pub struct RunTermIds {
 }
 
 // The refusal's number or 0, the ids, and the counters as they are afterwards.
-#[derive(Drop)]
+#[derive(Clone, Copy)]
 pub struct RunTerms {
     pub number: u32,
     pub ids: RunTermIds,

@@ -1,5 +1,7 @@
 // The test for a broken dictionary. It goes over the table and the arena once: the entries are scanned from the first, as if each term
 // were put again, and a hash of the terms tells whether one came before.
+#![tactic(auto)]
+
 ghost use Rattle.std.specs.Prelude.{◌≡◌, false, ◌+◌, ◌≤◌, length, replicate};
 ghost use Rattle.common.specs.Sizes.{heads_width};
 ghost use Rattle.dictionary_layout.specs.Layout.{entry_at};
@@ -17,7 +19,7 @@ use dictionary_layout::hash::digest;
 use dictionary_layout::{Counters, START_BYTES, START_COUNT, START_TABLE};
 
 // Whether entries are as puts leave them, and where the bytes of the last of them end.
-#[derive(Drop)]
+#[derive(Clone, Copy)]
 pub struct CheckedEntry {
     pub ok: bool,
     pub end: usize,

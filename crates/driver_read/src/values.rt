@@ -6,7 +6,7 @@ use common::{Id, Triple};
 use dictionary_index::Counters;
 
 // The refusal's number, the count of the triples, and the counters as they are afterwards.
-#[derive(Drop)]
+#[derive(Clone, Copy)]
 pub struct ReadNext {
     pub number: u32,
     pub count: u32,
@@ -15,7 +15,7 @@ pub struct ReadNext {
 
 // A line's terms: the kinds of subject and object, and the places after the bytes of subject, predicate and object, which stand one behind
 // the other.
-#[derive(Drop)]
+#[derive(Clone, Copy)]
 pub struct LineTerms {
     pub sk: u32,
     pub se: usize,
@@ -25,7 +25,7 @@ pub struct LineTerms {
 }
 
 // 0 and the ids of a line's terms, or another number; and the counters as they are afterwards.
-#[derive(Drop)]
+#[derive(Clone, Copy)]
 pub struct LineIds {
     pub number: u32,
     pub triple: Triple,

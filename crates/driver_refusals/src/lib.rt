@@ -1,4 +1,6 @@
 // What a run refuses before it puts a term: 2 to 6, in order; 5 over the whole load before 6.
+#![tactic(auto)]
+
 ghost use Rattle.std.specs.Prelude.{◌≡◌, not, eqb, ltb};
 ghost use Rattle.common.specs.Triples.{all};
 ghost use Rattle.driver_refusals.specs.RunRefusals.{first_refusal, run_refusals};

@@ -1,4 +1,6 @@
 // The run, REFERENCE 3.4: from a load to the answer and its findings, for all inputs.
+#![tactic(auto)]
+
 mod values; // values.rt: what a run answers, with the counters
 
 ghost use Rattle.std.specs.Prelude.{◌≡◌};

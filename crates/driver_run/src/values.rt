@@ -3,7 +3,7 @@ use dictionary_index::Counters;
 use driver_load::RunAnswer;
 
 // The answer, and the counters as they are afterwards.
-#[derive(Drop)]
+#[derive(Clone, Copy)]
 pub struct RunNext {
     pub answer: RunAnswer,
     pub counters: Counters,

@@ -2,7 +2,7 @@
 use driver_load::RunAnswer;
 
 // What a run answers, and 1 if the run is done, else 0.
-#[derive(Drop)]
+#[derive(Clone, Copy)]
 pub struct TurnAnswer {
     pub run: RunAnswer,
     pub done: u32,

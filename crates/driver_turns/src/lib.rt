@@ -1,4 +1,6 @@
 // Closing in turns, REFERENCE 3.6: the opening call and the pass, for all inputs.
+#![tactic(auto)]
+
 mod values; // values.rt: what they answer, with the counters
 
 ghost use Rattle.std.specs.Prelude.{◌≡◌};

@@ -3,7 +3,7 @@ use dictionary_index::Counters;
 use driver_step::TurnAnswer;
 
 // The answer, and the counters as they are afterwards.
-#[derive(Drop)]
+#[derive(Clone, Copy)]
 pub struct TurnNext {
     pub answer: TurnAnswer,
     pub counters: Counters,

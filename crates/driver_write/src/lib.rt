@@ -1,4 +1,6 @@
 // Writing the triples of a store as canonical RDF 1.1 N-Triples, REFERENCE 3.7, for all inputs.
+#![tactic(auto)]
+
 mod values; // values.rt: what writing answers
 mod terms; // terms.rt: the terms of a dictionary that is not broken
 mod rows; // rows.rt: the rows of a store

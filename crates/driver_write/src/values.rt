@@ -1,7 +1,7 @@
 // What writing answers.
 
 // The refusal's number, the text's length, and how many triples are left out.
-#[derive(Drop)]
+#[derive(Clone, Copy)]
 pub struct WriteNext {
     pub number: u32,
     pub used: usize,

@@ -1,4 +1,6 @@
 // Buffers of bytes at the C boundary, and the numbers that they hold.
+#![tactic(auto)]
+
 ghost use Rattle.std.specs.Prelude.{◌≡◌, ◌*◌, T, length};
 ghost use Rattle.edge_bytes.specs.Bytes.{from_bytes, numbers_of, bytes_of, changes, left_bytes, forwarded, cleared};
 

@@ -72,7 +72,7 @@ pub fn put_in(
 }
 
 // Where a term's bytes lie in the arena, with its kind and the refusal's number.
-#[derive(Drop)]
+#[derive(Clone, Copy)]
 pub struct TermPlace {
     pub number: u32,
     pub kind: u32,

@@ -1,5 +1,7 @@
 // The C entry points: start, put, lookup, run, open, pass, read and write over byte slices. Ids are little-endian. Each entry point owns
 // the numbers that the calls on numbers work on, and lends them to one function, which knows them as slices only.
+#![tactic(auto)]
+
 mod dictionary; // dictionary.rt: start, put and lookup
 mod read; // read.rt: read
 mod run; // run.rt: run

@@ -1,4 +1,6 @@
 // Program closer as a function on slices: from the bytes of its input to those of its output.
+#![tactic(auto)]
+
 ghost use Rattle.std.specs.Prelude.{◌≡◌, ◌≤◌, length, take};
 ghost use Rattle.meaning.specs.Closure.{total as sum};
 ghost use Rattle.dictionary_layout.specs.Values.{contents};

@@ -42,7 +42,7 @@ pub fn find_byte(bytes: &[u8], at: usize, byte: u8) -> usize
 }
 
 // Where the spaces of a line are, if there are two.
-#[derive(Drop)]
+#[derive(Clone, Copy)]
 pub enum Spaces {
     Two(usize, usize),
     Other,
@@ -66,7 +66,7 @@ pub fn two_spaces(line: &[u8]) -> Spaces
 }
 
 // The three ids of a line.
-#[derive(Drop)]
+#[derive(Clone, Copy)]
 pub enum Line {
     Ids(u32, u32, u32),
     Bad,
@@ -93,7 +93,7 @@ pub fn ids_of_line(line: &[u8]) -> Line
 }
 
 // The first bad line's number, or the count and how many id lines there are.
-#[derive(Drop)]
+#[derive(Clone, Copy)]
 pub enum Parsed {
     Bad(u32),
     Input { count: u32, lines: usize },

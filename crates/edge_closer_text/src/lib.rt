@@ -1,4 +1,6 @@
 // What program closer reads and prints, as functions on slices.
+#![tactic(auto)]
+
 pub mod input; // input.rt: the count and the id lines
 pub mod output; // output.rt: lines of numbers, and the program's four outputs
 

@@ -1,10 +1,12 @@
 // Decimal numbers: digits without leading zeros.
+#![tactic(auto)]
+
 ghost use Rattle.std.specs.Prelude.{◌≡◌, ◌+◌, ◌≤◌, length};
 ghost use Rattle.edge_decimal.specs.Decimal.{number as decimal·number, digits};
 ghost use Rattle.edge_decimal.specs.Promises.{number_of, Wrote};
 
 // The number of a field, if it is one.
-#[derive(Drop)]
+#[derive(Clone, Copy)]
 pub enum Field {
     Number(u32),
     Bad,

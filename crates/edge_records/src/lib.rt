@@ -1,4 +1,6 @@
 // Findings as records: a lent slice of structs, filled from the five-number form that a run leaves.
+#![tactic(auto)]
+
 ghost use Rattle.std.specs.Prelude.{◌≡◌, ◌+◌, ◌*◌, ◌≤◌, length};
 ghost use Rattle.common.specs.Sizes.{finding_width};
 ghost use Rattle.edge_records.specs.Records.{five_at, plan_for, records_result, records_give};
@@ -6,7 +8,7 @@ ghost use Rattle.edge_records.specs.Records.{five_at, plan_for, records_result, 
 use common::FINDING_WIDTH;
 
 // A finding: the check's number, then the four numbers of REFERENCE 7.1.
-#[derive(Drop)]
+#[derive(Clone, Copy)]
 pub struct FindingRecord {
     pub check: u32,
     pub a: u32,
@@ -16,7 +18,7 @@ pub struct FindingRecord {
 }
 
 // What is to be done: the refusal's number or 0, and how many records are filled.
-#[derive(Drop)]
+#[derive(Clone, Copy)]
 pub struct Plan {
     pub number: u32,
     pub count: usize,

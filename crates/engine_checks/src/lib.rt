@@ -1,5 +1,7 @@
 // The five checks over a closed store. Each row that is an axiom of a check is paired with the assertions that can violate it, which
 // are one chain of the index; a finding comes from one pair only, so no record is written twice.
+#![tactic(auto)]
+
 ghost use Rattle.std.specs.Prelude.{◌≡◌, true, false, ℕ, ◌+◌, ◌-◌, ◌*◌, ◌≤◌, ◌<◌, length, get_or};
 ghost use Rattle.common.specs.Sizes.{finding_width, finding_limit};
 ghost use Rattle.common.specs.Triples.{triple, finding};
@@ -15,7 +17,7 @@ use store_rows::{OBJECTS, PREDICATES, SUBJECTS, contains, head, link, row, wide}
 use store_sort::sort_rows;
 
 // A check by the W3C name of its rule.
-#[derive(Drop)]
+#[derive(Clone, Copy)]
 pub enum CheckKind {
     NoCheck,
     CaxDw,
@@ -26,7 +28,7 @@ pub enum CheckKind {
 }
 
 // A record: the check's number, then the four numbers of the findings table.
-#[derive(Drop)]
+#[derive(Clone, Copy)]
 pub struct Finding {
     pub check: u32,
     pub a: u32,
@@ -36,7 +38,7 @@ pub struct Finding {
 }
 
 // How many records there are, whether one more did not fit, and how many there are of each check.
-#[derive(Drop)]
+#[derive(Clone, Copy)]
 pub struct Checked {
     pub n: usize,
     pub full: bool,

@@ -1,1 +1,2 @@
 // The definitions of closing in turns and their theorems: no code.
+#![tactic(auto)]

@@ -1,4 +1,6 @@
 // Lines of RDF 1.1 N-Triples: what each says, with the bytes of its terms.
+#![tactic(auto)]
+
 mod terms; // terms.rt: subjects, predicates and objects
 
 ghost use Rattle.std.specs.Prelude.{◌≡◌, ◌≤◌, length, drop};
@@ -18,7 +20,7 @@ pub const OUT_LENGTH: usize = 4 * LINE_LIMIT + XSD_WIDTH + 1;
 
 // Nothing; a triple, by the kind of its subject, the places after the bytes of subject and predicate, the kind of its object and the place
 // after its bytes; or no line of the grammar.
-#[derive(Drop)]
+#[derive(Clone, Copy)]
 pub enum Said {
     Nothing,
     Triple(u32, usize, usize, u32, usize),

@@ -10,7 +10,7 @@ use ntriples_tokens::{
 };
 
 // A term's kind, the place after it, and the place after its bytes.
-#[derive(Drop)]
+#[derive(Clone, Copy)]
 pub enum FoundTerm {
     Of(u32, usize, usize),
     Bad,

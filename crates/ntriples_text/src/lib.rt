@@ -1,4 +1,6 @@
 // The canonical text of a term: how long it is, and the term written.
+#![tactic(auto)]
+
 mod literal; // literal.rt: a literal's text and what follows it
 
 ghost use Rattle.std.specs.Prelude.{◌≡◌};

@@ -8,7 +8,7 @@ use crate::characters::{echar, hex};
 use ntriples_utf8::{Scalar, fit};
 
 // The number that hexadecimal digits write.
-#[derive(Drop)]
+#[derive(Clone, Copy)]
 pub enum Hexes {
     Number(u32),
     Bad,

@@ -1,4 +1,6 @@
 // The terminals of RDF 1.1 N-Triples over a line's Unicode scalar values.
+#![tactic(auto)]
+
 mod characters; // characters.rt: the classes of characters
 mod escape; // escape.rt: UCHAR and ECHAR
 mod label; // label.rt: BLANK_NODE_LABEL

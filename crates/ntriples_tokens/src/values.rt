@@ -7,7 +7,7 @@ ghost use Rattle.ntriples_tokens.specs.Promises.{part, Room};
 use ntriples_utf8::put_scalar;
 
 // The place after the token, and the place after its bytes.
-#[derive(Drop)]
+#[derive(Clone, Copy)]
 pub enum Parsed {
     At(usize, usize),
     Bad,

@@ -1,10 +1,12 @@
 // UTF-8: bytes decoded to Unicode scalar values, and a scalar value written in bytes.
+#![tactic(auto)]
+
 ghost use Rattle.std.specs.Prelude.{◌≡◌, suc, ◌+◌, ◌≤◌, ◌<◌, length, get_or, drop};
 ghost use Rattle.ntriples.specs.Utf8.{tail, fit, two, three, four, first, encode_one};
 ghost use Rattle.ntriples_utf8.specs.Promises.{scalar_of, Decodes, top, Wrote};
 
 // A scalar value, and how many elements after the first it took.
-#[derive(Drop)]
+#[derive(Clone, Copy)]
 pub enum Scalar {
     Value(u32, usize),
     Bad,
@@ -125,7 +127,7 @@ fn first(bytes: &[u8], at: usize) -> Scalar
 }
 
 // How many scalar values there are, if the bytes are UTF-8.
-#[derive(Drop)]
+#[derive(Clone, Copy)]
 pub enum Decoded {
     Chars(usize),
     Bad,

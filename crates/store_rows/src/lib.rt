@@ -1,5 +1,7 @@
 // Rows of numbers in a lent slice: a store of triples with its membership hash, chains of rows by key, and rows that have an id 0
 // taken out.
+#![tactic(auto)]
+
 pub mod chains; // chains.rt: the rows that have one key, the latest first
 pub mod layout; // layout.rt: the blocks of the index buffer, and the lengths of buffers
 pub mod store; // store.rt: rows read, written, compared, looked up and appended

@@ -8,14 +8,14 @@ ghost use Rattle.trial_buffers.specs.Memory.{Each};
 use edge_decimal::{Field, number};
 
 // A place in the text, and whether all before it could be read.
-#[derive(Drop)]
+#[derive(Clone, Copy)]
 pub struct Cursor {
     pub at: usize,
     pub ok: bool,
 }
 
 // A number, and the place after the byte that ends it.
-#[derive(Drop)]
+#[derive(Clone, Copy)]
 pub struct Read {
     pub value: u32,
     pub at: usize,
@@ -103,7 +103,7 @@ pub fn read_row(text: &[u8], from: Cursor, row: &mut [u32]) -> Cursor
 }
 
 // A byte, and whether the number is one.
-#[derive(Drop)]
+#[derive(Clone, Copy)]
 struct Byte {
     value: u8,
     ok: bool,

@@ -1,5 +1,7 @@
 // Runs what program closer runs on many inputs and prints each output. The file stdout was written by hand as REFERENCE 10 has it, case by
 // case in the order below, and then compared with harness/model, the reference model.
+#![tactic(auto)]
+
 ghost use Rattle.std.specs.Prelude.{◌+◌, ◌*◌, ◌≤◌, ◌<◌, length};
 ghost use Rattle.edge_closer_text.specs.Sizes.{three_width, input_length};
 

@@ -1,4 +1,6 @@
 // What the measurement of crate index links: the test for a broken dictionary. The harness is harness/index_bench.
+#![tactic(auto)]
+
 ghost use Rattle.std.specs.Prelude.{◌≡◌};
 ghost use Rattle.dictionary_layout.specs.Dictionary.{valid};
 ghost use Rattle.dictionary_layout.specs.Layout.{dict};

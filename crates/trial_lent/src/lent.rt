@@ -31,7 +31,7 @@ pub fn put_lent(
 }
 
 // The answer, and the four records afterwards.
-#[derive(Drop)]
+#[derive(Clone, Copy)]
 pub struct Filled {
     pub number: u32,
     pub records: [FindingRecord; 4],

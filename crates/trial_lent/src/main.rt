@@ -2,6 +2,8 @@
 // edge_records::findings_as_records, which is lent a slice of records. What each call must give is written here as REFERENCE 3.2 and 7.3
 // have it, and what it gives is compared with that. In the lists of wrong expectations each call has one that is wrong on purpose, and must
 // come out as a difference.
+#![tactic(auto)]
+
 mod lent; // lent.rt: the two calls, for callers that have the structs by value
 
 ghost use Rattle.std.specs.Prelude.{◌≤◌, ◌<◌};
@@ -30,7 +32,7 @@ fn print_list(name: &[u8], tally: Tally) {
 }
 
 // What a put must give: the answer, the counters, and whether table and arena stay as they are.
-#[derive(Drop)]
+#[derive(Clone, Copy)]
 struct Due {
     number: u32,
     id: u32,
@@ -62,7 +64,7 @@ fn kept(number: u32, id: u32, terms: u32, used: u32) -> Due {
 }
 
 // The counters that the next put is lent, and the tally.
-#[derive(Drop)]
+#[derive(Clone, Copy)]
 struct State {
     counters: Counters,
     tally: Tally,

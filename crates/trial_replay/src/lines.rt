@@ -9,7 +9,7 @@ use trial_buffers::memory::{fill, take_numbers};
 use trial_buffers::reader::{Cursor, Read, both, read_number, read_row};
 
 // What a line showed: calls and differences, and the place after it, if it could be read.
-#[derive(Drop)]
+#[derive(Clone, Copy)]
 pub struct Turn {
     pub at: usize,
     pub ok: bool,
@@ -18,7 +18,7 @@ pub struct Turn {
 }
 
 // Cells of a memory, and the place in the text after their numbers.
-#[derive(Drop)]
+#[derive(Clone, Copy)]
 struct Span {
     first: usize,
     end: usize,

@@ -1,4 +1,6 @@
 // Plays a text of calls with what each must give: crates/trial_replay/stdin. README.md has its format, and how it was made.
+#![tactic(auto)]
+
 mod calls; // calls.rt: the eight calls on a memory
 mod lines; // lines.rt: a line of the text
 mod report; // report.rt: what is printed
@@ -22,7 +24,7 @@ const TEXT: usize = 1000000;
 const END: u32 = 7;
 
 // How far the text was played: the tally of the list, the place of the next line, whether all could be read.
-#[derive(Drop)]
+#[derive(Clone, Copy)]
 struct Progress {
     tally: Tally,
     at: usize,

@@ -1,4 +1,6 @@
 // What the measurements of crates rows and sort link: the sort, and appending with repeats. The harness is harness/rows_bench.
+#![tactic(auto)]
+
 ghost use Rattle.common.specs.Sizes.{store_width, finding_width};
 ghost use Rattle.store_rows.specs.Store.{Good};
 ghost use Rattle.store_sort.specs.Sorted.{Fits, Sorted};

@@ -2,6 +2,8 @@
 // them, and 0 where it must give that number, or 1 where it must not: a comparison that tests nothing so shows as a difference. The cases
 // with 0 are both sides of each limit of the lengths, REFERENCE 3.1, and of the room that the start's terms need; those with 1 name
 // another number for starts of each kind. A case that differs is named.
+#![tactic(auto)]
+
 mod starts; // starts.rt: a start, held to what is said of it
 
 use starts::starts;
@@ -14,7 +16,7 @@ const TEXT: usize = 2000;
 const FOUND: u32 = 13;
 
 // A case: whether it came out as said, the place after it, if it could be read.
-#[derive(Drop)]
+#[derive(Clone, Copy)]
 struct Case {
     at: usize,
     ok: bool,
