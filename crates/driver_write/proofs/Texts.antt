@@ -34,9 +34,12 @@ rows_all store h =
 all_both : (b c : Bool) → T (if b (λ _. c) (λ _. false)) → T b × T c
 all_both b c = if_ind (λ r. T r → T b × T c) b (λ _. c) (λ _. false) (λ t u. (t, u)) (λ n u. absurd u)
 
+all_at : {A : Type 0} (f : A → Bool) {x : A} {xs : List A} → In x xs → T (all f xs) → T (f x)
+all_at f (here {y = y} {ys = ys} e) t = subst (λ z. T (f z)) (sym e) (all_both (f y) (all f ys) t).0
+all_at f (there {y = y} {ys = ys} h) t = all_at f h (all_both (f y) (all f ys) t).1
+
 all→ : {A : Type 0} (f : A → Bool) {xs : List A} → T (all f xs) → {x : A} → In x xs → T (f x)
-all→ f t (here {y = y} {ys = ys} e) = subst (λ z. T (f z)) (sym e) (all_both (f y) (all f ys) t).0
-all→ f t (there {y = y} {ys = ys} h) = all→ f (all_both (f y) (all f ys) t).1 h
+all→ f t h = all_at f h t
 
 all← : {A : Type 0} (f : A → Bool) (xs : List A) → ((x : A) → In x xs → T (f x)) → T (all f xs)
 all← f [] h = tt

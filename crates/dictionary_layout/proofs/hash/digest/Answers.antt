@@ -14,7 +14,7 @@ pub bounds-bytes-i : goal.bounds-bytes-i
 bounds-bytes-i c = omega arith
 
 pub wide-b-requires : goal.wide-b-requires
-wide-b-requires c κs = search rules
+wide-b-requires c = search rules
 
 pub overflow_add-sum : goal.overflow_add-sum
 overflow_add-sum c =

@@ -9,13 +9,13 @@ pub loop-i-init : goal.loop-i-init
 loop-i-init c = removing_start c.args.store.now c.args.n
 
 pub whole_row-r-requires : goal.whole_row-r-requires
-whole_row-r-requires c κs = omega (arith, c.loop-i.invariant.same_length)
+whole_row-r-requires c = omega (arith, c.loop-i.invariant.same_length)
 
 pub overflow_add-i : goal.overflow_add-i
 overflow_add-i c = search rules
 
 pub no_zero-requires : goal.no_zero-requires
-no_zero-requires c κs = search rules
+no_zero-requires c = search rules
 
 pub loop-i-smaller-then-not-no_zero : goal.loop-i-smaller-then-not-no_zero
 loop-i-smaller-then-not-no_zero c = search rules
@@ -23,10 +23,10 @@ loop-i-smaller-then-not-no_zero c = search rules
 pub loop-i-preserved-then-not-no_zero : goal.loop-i-preserved-then-not-no_zero
 loop-i-preserved-then-not-no_zero c =
     removing_skip c.loop-i.invariant c.loop-i-test.true (row_of c.whole_row-r.result)
-    c.whole_row-r.ensures (sym c.no_zero.ensures ∙ not-true _ c.if-not-no_zero.true)
+    c.whole_row-r.ensures (sym c.no_zero.ensures ∙ c.if-not-no_zero.true)
 
 pub put_row-requires : goal.put_row-requires
-put_row-requires c κs =
+put_row-requires c =
     omega (arith, c.loop-i.invariant.same_length, c.loop-i.invariant.few)
 
 pub overflow_add-kept : goal.overflow_add-kept
@@ -38,7 +38,7 @@ loop-i-smaller c = search rules
 pub loop-i-preserved : goal.loop-i-preserved
 loop-i-preserved c =
     removing_keep c.loop-i.invariant c.loop-i-test.true (row_of c.whole_row-r.result)
-    c.whole_row-r.ensures c.requires (sym c.no_zero.ensures ∙ not-false _ c.if-not-no_zero.false)
+    c.whole_row-r.ensures c.requires (sym c.no_zero.ensures ∙ c.if-not-no_zero.false)
     c.put_row.ensures
 
 pub shape_of-store : goal.shape_of-store
