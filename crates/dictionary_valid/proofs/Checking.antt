@@ -10,12 +10,12 @@ use lib.ListN.{length, get_or, set}
 use Rattle.common.specs.Sizes.{heads_width, entry_limit}
 use Rattle.dictionary_layout.specs.declared.values.Digest.{Digest}
 use Rattle.dictionary_layout.specs.Terms.{Term, start_count}
-use Rattle.dictionary_layout.specs.Layout.{dict, chain, heads, entry_at}
+use Rattle.dictionary_layout.specs.Layout.{dict, chain, entry_at}
 use Rattle.dictionary_layout.specs.Dictionary.{valid}
 use Rattle.dictionary_entries.specs.Entries.{length_of, next_of, entry_term}
 use Rattle.dictionary_layout.specs.Digest.{bucket, digest_of, bucket_count}
 use Rattle.dictionary_hash.specs.Hashing.{Hashed, linked, FindsEntry, Seekable, Hashable}
-use Rattle.dictionary_valid.specs.Scanning.{Scanned, Scanning, Decides, Follows, CheckedEntry, CheckedAll}
+use Rattle.dictionary_valid.specs.Scanning.{Scanned, Scanning, Decides, Follows, CheckedNext, CheckedAll}
 use Rattle.dictionary_layout.proofs.Choice.{true_false}
 use Rattle.dictionary_layout.proofs.Digests.{chain_below, digest_bucket}
 use Rattle.dictionary_hash.proofs.Hashing.{read_term, read_is, hashed_more}
@@ -31,7 +31,7 @@ decides_no f = record { yes = λ e. true_false (sym e); no = λ _. f }
 
 -- a test that fails: no dictionary with this entry has it so
 pub entry_broken : {table arena heads hash : List ℕ} {k : ℕ} {ok : Bool} {end : ℕ} → ok ≡ false
-    → ((n used : ℕ) → k < n → T (valid (dict table arena n used)) → ⊥) → CheckedEntry table arena heads hash k ok end
+    → ((n used : ℕ) → k < n → T (valid (dict table arena n used)) → ⊥) → CheckedNext table arena heads hash k ok end
 entry_broken e f = record { yes = λ q. true_false (sym q ∙ e); no = λ _ n l used v. f n used l v }
 
 module _ {table arena heads hash : List ℕ} {k at : ℕ} (s : Scanning table arena heads hash k at) where
@@ -86,7 +86,7 @@ module _ {table arena heads hash : List ℕ} {k at : ℕ} (s : Scanning table ar
     -- every test passed
     pub entry_passed : {r : ℕ} {hash' : List ℕ} → heads_width ≤ length heads → next_of table k ≡ get_or heads d.chain 0
         → FindsEntry table arena k (read_term table arena k at) r → r ≡ 0 → hash' ≡ linked hash d.bucket k
-        → CheckedEntry table arena (set heads d.chain k) hash' k true (at + length_of table k)
+        → CheckedNext table arena (set heads d.chain k) hash' k true (at + length_of table k)
     entry_passed room e w z hs = record {
       yes = λ _. (
         subst (λ (x : ℕ). Scanned table arena (set heads x k) (k + 1) (at + length_of table k)) (sym chained)
@@ -122,11 +122,11 @@ module _ {table arena heads₀ heads hash : List ℕ} {n k at : ℕ} (w : ScanSt
   pub scan_entry : entry_at n ≤ length table → Scanning table arena heads hash k at
   scan_entry e = record { scanned = w.scanned; hashed = w.hashed; entry = omega arith }
 
-  pub scan_more : {heads' hash' : List ℕ} {ok : Bool} {end : ℕ} → CheckedEntry table arena heads' hash' k ok end → ok ≡ true
+  pub scan_more : {heads' hash' : List ℕ} {ok : Bool} {end : ℕ} → CheckedNext table arena heads' hash' k ok end → ok ≡ true
       → length heads' ≡ length heads → ScanState table arena heads₀ heads' hash' n (k + 1) end
   scan_more c e l = let (a, b) = c.yes e in record { within = omega arith; scanned = a; hashed = b; heads_long = l ∙ w.heads_long }
 
-  pub scan_broken : {heads' hash' : List ℕ} {ok ok' : Bool} {end end' : ℕ} → CheckedEntry table arena heads' hash' k ok end
+  pub scan_broken : {heads' hash' : List ℕ} {ok ok' : Bool} {end end' : ℕ} → CheckedNext table arena heads' hash' k ok end
       → ok ≡ false → ok' ≡ false → CheckedAll table arena heads' n ok' end'
   scan_broken c e f = record { yes = λ p. true_false (sym p ∙ f); no = λ _. c.no e n h }
 

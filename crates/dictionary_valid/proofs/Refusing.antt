@@ -10,7 +10,7 @@ use lib.ListN.{length, get_or, take, drop, length-take, length-drop}
 use lib.Seq.{get_or-take}
 use Rattle.common.specs.Sizes.{term_limit, heads_width}
 use Rattle.dictionary_layout.specs.Terms.{Term, no_term}
-use Rattle.dictionary_layout.specs.Layout.{Dict, dict, chain, size, heads, decode}
+use Rattle.dictionary_layout.specs.Layout.{Dict, dict, chain, size, decode}
 use Rattle.dictionary_layout.specs.Dictionary.{place_of, kind_known, short, term_of, valid}
 use Rattle.dictionary_entries.specs.Entries.{start_of, length_of, next_of, entry_term}
 use Rattle.dictionary_valid.specs.Scanning.{named, Scanned, Follows}

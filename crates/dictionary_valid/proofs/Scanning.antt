@@ -10,7 +10,7 @@ use lib.ListN.{length, get_or, take, drop, set, length-append, length-take, leng
 use lib.Seq.{take-add, get_or-take, take-set-lt}
 use Rattle.common.specs.Sizes.{heads_width, table_limit, arena_limit, term_limit}
 use Rattle.dictionary_layout.specs.Terms.{Term, start_terms, start_count}
-use Rattle.dictionary_layout.specs.Layout.{chain, all_bytes, size, heads, all_heads, all_entries, span, entry_at}
+use Rattle.dictionary_layout.specs.Layout.{chain, all_bytes, size, all_heads, all_entries, span, entry_at}
 use Rattle.dictionary_layout.specs.Dictionary.{place_of, PutAnswer, term_of}
 use Rattle.dictionary_entries.specs.Entries.{start_of, length_of, kind_of, next_of, entry_term, EntryFits}
 use Rattle.dictionary_valid.specs.Scanning.{named, Scanned, Follows}

@@ -10,7 +10,7 @@ use lib.ListN.{length, take, drop, length-append, length-drop, take-append-drop}
 use lib.Seq.{take_at, drop_at, drop-drop}
 use Rattle.common.specs.Sizes.{heads_width}
 use Rattle.dictionary_layout.specs.Terms.{Term, start_count}
-use Rattle.dictionary_layout.specs.Layout.{Dict, dict, all_bytes, size, heads, all_heads, all_entries, span, layout, decode, entry_at}
+use Rattle.dictionary_layout.specs.Layout.{Dict, dict, all_bytes, size, all_heads, all_entries, span, layout, decode, entry_at}
 use Rattle.dictionary_layout.specs.Dictionary.{same_row, start_refusal, valid}
 use Rattle.dictionary_valid.specs.Scanning.{named, Scanned}
 use Rattle.dictionary_layout.proofs.Choice.{is_false, true→T, false→not_T, same_test}

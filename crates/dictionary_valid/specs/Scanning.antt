@@ -44,7 +44,7 @@ pub record Follows (table arena : List ℕ) (k at : ℕ) : Type 0 where
   pub high : kind_of table k ≤ 3
 
 -- what one entry more comes to
-pub record CheckedEntry (table arena heads hash : List ℕ) (k : ℕ) (ok : Bool) (end : ℕ) : Type 0 where
+pub record CheckedNext (table arena heads hash : List ℕ) (k : ℕ) (ok : Bool) (end : ℕ) : Type 0 where
   pub yes : ok ≡ true → Scanned table arena heads (k + 1) end × Hashed table arena hash (k + 1)
   pub no : ok ≡ false → (n : ℕ) → k < n → Broken table arena n
 

@@ -8,7 +8,7 @@ ghost use Rattle.dictionary_layout.specs.Layout.{entry_at};
 ghost use Rattle.dictionary_layout.specs.Dictionary.{valid};
 ghost use Rattle.dictionary_layout.specs.Values.{contents};
 ghost use Rattle.dictionary_hash.specs.Hashing.{term_hash_length};
-ghost use Rattle.dictionary_valid.specs.Scanning.{Scanned, Scanning, CheckedEntry, Decides, Follows, CheckedAll, Scannable};
+ghost use Rattle.dictionary_valid.specs.Scanning.{Scanned, Scanning, CheckedNext, Decides, Follows, CheckedAll, Scannable};
 ghost use Rattle.dictionary_valid.specs.Scanning.{FreshStart, Begins};
 
 use common::{ENTRY_WIDTH, HEADS_WIDTH, TERM_LIMIT};
@@ -61,7 +61,7 @@ fn check_entry(
     at: usize,
 ) -> CheckedEntry
     requires { Scanning table.now arena.now heads.old hash.old k at × (heads_width ≤ length heads.old) }
-    ensures { CheckedEntry table.now arena.now
+    ensures { CheckedNext table.now arena.now
         heads.new hash.new k result.ok result.end }
 {
     if entry_follows(table, arena, k, at) {

@@ -59,3 +59,4 @@ given_text x g = go (line_nodes g.said.bytes g.triple g.said.says_it) g.among
     go {t} n (there (here e)) =
         at t.p n.p e (ap (λ (u : Terms). u.p) n.same) (and→ (well_formed n.p) (is_named n.p) n.p_good).0
     go {t} n (there (there (here e))) = at t.o n.o e (ap (λ (u : Terms). u.o) n.same) n.o_good
+    go {t} n (there (there (there i))) = elim i [ ]

@@ -1,5 +1,6 @@
 -- What stands in a buffer that is cleared from a place on: rows laid out, then zeros. Assumes nothing.
-use Rattle.std.proofs.Common.{◌≡◌, ℕ, zero, suc, ◌+◌, ◌-◌, ◌*◌, ◌≤◌, List, [], ◌∷◌, ◌++◌, length, get_or, take, drop, replicate, sym, refl, ap, ◌∙◌, ap₂, mul-suc, add-one, arith, length-take-le, drop-cons, take-add}
+use Rattle.std.proofs.Common.{◌≡◌, ℕ, zero, suc, ◌+◌, ◌-◌, ◌*◌, ◌≤◌, List, [], ◌∷◌, ◌++◌, length, get_or, take, drop, replicate}
+use Rattle.std.proofs.Common.{sym, refl, ap, ◌∙◌, ap₂, mul-suc, add-one, arith, length-take-le, drop-cons, take-add}
 use Rattle.common.specs.Triples.{Row, Finding, concat_map, key_finding, Distinct, insert_all, without_zero_rows}
 use Rattle.common.specs.Rows.{flat_rows, flat_findings, filled, cleared}
 use Rattle.store_rows.specs.Rows.{width, whole_row_at, listed, whole_rows, sorted_rows, finding_at, finding_rows}

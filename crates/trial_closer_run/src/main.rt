@@ -9,91 +9,92 @@ use edge_closer_run::{INPUT, close_input, close_read};
 use edge_closer_text::input::find_byte;
 use edge_closer_text::output::{put_bytes, put_line};
 use edge_closer_text::{LONGEST, OUTPUT, THREE_WIDTH};
+use std::io;
 
 // Room for the longest input built here: one line more than a good input has.
 const TEXT: usize = LONGEST + THREE_WIDTH;
 
 // Prints the output of an input.
-fn print_output(input: &[u8]) {
+fn print_output(rt: &impl Print, input: &[u8]) -> io::Result<()> {
     let mut out = [0u8; OUTPUT];
     let n = close_input(input, &mut out);
-    io::write_all(1, &out[..n]);
+    rt.write_all(&out[..n])
 }
 
 // Prints the first line of the output.
-fn print_first_line(input: &[u8]) {
+fn print_first_line(rt: &impl Print, input: &[u8]) -> io::Result<()> {
     let mut out = [0u8; OUTPUT];
     let n = close_input(input, &mut out);
     let end = find_byte(&out[..n], 0, 10);
     if end < n {
-        io::write_all(1, &out[..end]);
+        rt.write_all(&out[..end])?;
     }
-    io::write_all(1, b"\n");
+    rt.write_all(b"\n")
 }
 
 // The example of REFERENCE 10.4, with and without its last line feed; then the other cases of REFERENCE 11.1.
-fn answers() {
-    print_output(b"3\n31 1 32\n32 8 33\n");
-    print_output(b"3\n31 1 32\n32 8 33");
-    print_output(b"0\n");
-    print_output(b"0");
-    print_output(b"5\n31 1 19\n32 31 33\n34 31 35\n");
-    print_output(b"5\n31 1 20\n32 31 33\n34 31 35\n");
-    print_output(b"4\n31 1 20\n32 31 33\n34 31 33\n");
-    print_output(b"3\n31 1 32\n31 1 33\n32 26 33\n");
-    print_output(b"3\n31 1 15\n32 31 33\n33 31 32\n");
-    print_output(b"4\n31 29 32\n33 31 34\n33 32 34\n");
-    print_output(b"4\n31 21 32\n32 2 33\n32 3 4\n34 1 33\n");
+fn answers(rt: &impl Print) -> io::Result<()> {
+    print_output(rt, b"3\n31 1 32\n32 8 33\n")?;
+    print_output(rt, b"3\n31 1 32\n32 8 33")?;
+    print_output(rt, b"0\n")?;
+    print_output(rt, b"0")?;
+    print_output(rt, b"5\n31 1 19\n32 31 33\n34 31 35\n")?;
+    print_output(rt, b"5\n31 1 20\n32 31 33\n34 31 35\n")?;
+    print_output(rt, b"4\n31 1 20\n32 31 33\n34 31 33\n")?;
+    print_output(rt, b"3\n31 1 32\n31 1 33\n32 26 33\n")?;
+    print_output(rt, b"3\n31 1 15\n32 31 33\n33 31 32\n")?;
+    print_output(rt, b"4\n31 29 32\n33 31 34\n33 32 34\n")?;
+    print_output(rt, b"4\n31 21 32\n32 2 33\n32 3 4\n34 1 33\n")?;
     // the checks that the list leaves out: irreflexive, Nothing
-    print_output(b"2\n31 1 14\n32 31 32\n");
-    print_output(b"1\n31 1 10\n");
+    print_output(rt, b"2\n31 1 14\n32 31 32\n")?;
+    print_output(rt, b"1\n31 1 10\n")
 }
 
 // Another shape of the first line.
-fn bad_counts() {
-    print_output(b"");
-    print_output(b"\n");
-    print_output(b"501\n");
-    print_output(b"03\n");
-    print_output(b"+3\n");
-    print_output(b"3\r\n");
-    print_output(b"3 \n");
-    print_output(b" 3\n");
-    print_output(b"3 4\n");
-    print_output(b"4294967296\n");
-    print_output(b"31 1 32\n");
+fn bad_counts(rt: &impl Print) -> io::Result<()> {
+    print_output(rt, b"")?;
+    print_output(rt, b"\n")?;
+    print_output(rt, b"501\n")?;
+    print_output(rt, b"03\n")?;
+    print_output(rt, b"+3\n")?;
+    print_output(rt, b"3\r\n")?;
+    print_output(rt, b"3 \n")?;
+    print_output(rt, b" 3\n")?;
+    print_output(rt, b"3 4\n")?;
+    print_output(rt, b"4294967296\n")?;
+    print_output(rt, b"31 1 32\n")?;
     // the second line is bad too
-    print_output(b"501\n31 1\n");
+    print_output(rt, b"501\n31 1\n")?;
     let long = [49u8; 40000];
-    print_output(&long);
+    print_output(rt, &long)
 }
 
 // Another shape of an id line, and the first of several.
-fn bad_id_lines() {
-    print_output(b"3\n\n31 1 32\n");
-    print_output(b"3\n31 1 32\n\n");
-    print_output(b"3\n31 01 32\n");
-    print_output(b"3\n31  1 32\n");
-    print_output(b"3\n31 1 32 \n");
-    print_output(b"3\n 31 1 32\n");
-    print_output(b"3\n31 1 32\r\n");
-    print_output(b"3\n31 -1 32\n");
-    print_output(b"3\n31 +1 32\n");
-    print_output(b"3\n31 1 4294967296\n");
-    print_output(b"3\n31 1\n");
-    print_output(b"3\n31 1 32 8\n");
-    print_output(b"3\n31 1 32\n32 8\n33\n");
+fn bad_id_lines(rt: &impl Print) -> io::Result<()> {
+    print_output(rt, b"3\n\n31 1 32\n")?;
+    print_output(rt, b"3\n31 1 32\n\n")?;
+    print_output(rt, b"3\n31 01 32\n")?;
+    print_output(rt, b"3\n31  1 32\n")?;
+    print_output(rt, b"3\n31 1 32 \n")?;
+    print_output(rt, b"3\n 31 1 32\n")?;
+    print_output(rt, b"3\n31 1 32\r\n")?;
+    print_output(rt, b"3\n31 -1 32\n")?;
+    print_output(rt, b"3\n31 +1 32\n")?;
+    print_output(rt, b"3\n31 1 4294967296\n")?;
+    print_output(rt, b"3\n31 1\n")?;
+    print_output(rt, b"3\n31 1 32 8\n")?;
+    print_output(rt, b"3\n31 1 32\n32 8\n33\n")
 }
 
 // A blank id before an unknown one, wherever they stand; the run's own three terms are unknown to a load.
-fn refusals() {
-    print_output(b"3\n31 1 0\n");
-    print_output(b"3\n0 1 32\n");
-    print_output(b"3\n34 1 31\n31 0 32\n");
-    print_output(b"3\n31 1 34\n");
-    print_output(b"0\n31 1 9\n");
-    print_output(b"500\n531 1 9\n");
-    print_output(b"3\n31 1 4294967295\n");
+fn refusals(rt: &impl Print) -> io::Result<()> {
+    print_output(rt, b"3\n31 1 0\n")?;
+    print_output(rt, b"3\n0 1 32\n")?;
+    print_output(rt, b"3\n34 1 31\n31 0 32\n")?;
+    print_output(rt, b"3\n31 1 34\n")?;
+    print_output(rt, b"0\n31 1 9\n")?;
+    print_output(rt, b"500\n531 1 9\n")?;
+    print_output(rt, b"3\n31 1 4294967295\n")
 }
 
 // Writes so many lines of three ids: in each the object is the subject and 1, and the subject of the next line.
@@ -113,7 +114,7 @@ fn put_lines(first: u32, p: u32, lines: u32, text: &mut [u8], at: usize) -> usiz
 
 // So many classes above 31, each a subclass of the next; n classes in all have n (n - 1) / 2 subClassOf triples, n - 1 subjects, and 4
 // triples more: 62 have 1,956, and 63 have 2,019. Then so many triples, of two each, and the last line.
-fn chain(classes: u32, others: u32, last: &[u8])
+fn chain(rt: &impl Print, classes: u32, others: u32, last: &[u8]) -> io::Result<()>
     requires { (classes ≤ 100) × (others ≤ 100) × (length last.now ≤ 100) }
 {
     let mut text = [0u8; TEXT];
@@ -121,21 +122,21 @@ fn chain(classes: u32, others: u32, last: &[u8])
     let at = put_lines(31, 8, classes, &mut text, count);
     let next = put_lines(101, 93, others, &mut text, at);
     let end = put_bytes(last, &mut text, next);
-    print_first_line(&text[..end]);
+    print_first_line(rt, &text[..end])
 }
 
 // So many subjects of property 31, whose two domains are disjoint: four triples and one finding each, and 9 triples more.
-fn clashes(subjects: u32)
+fn clashes(rt: &impl Print, subjects: u32) -> io::Result<()>
     requires { subjects ≤ 500 }
 {
     let mut text = [0u8; TEXT];
     let head = put_bytes(b"500\n31 5 32\n31 5 33\n32 26 33\n", &mut text, 0);
     let end = put_lines(35, 31, subjects, &mut text, head);
-    print_first_line(&text[..end]);
+    print_first_line(rt, &text[..end])
 }
 
 // 499 triples twice, then so many of them again: a subject of type Thing for each, and 4 triples more.
-fn repeated(again: u32)
+fn repeated(rt: &impl Print, again: u32) -> io::Result<()>
     requires { again ≤ 3 }
 {
     let mut text = [0u8; TEXT];
@@ -143,11 +144,11 @@ fn repeated(again: u32)
     let once = put_lines(31, 93, 499, &mut text, count);
     let twice = put_lines(31, 93, 499, &mut text, once);
     let end = put_lines(31, 93, again, &mut text, twice);
-    print_first_line(&text[..end]);
+    print_first_line(rt, &text[..end])
 }
 
 // The first n bytes of the longest good input, 1,000 lines of ids of ten digits, and of a further line, as `main` reads them.
-fn longest(n: usize)
+fn longest(rt: &impl Print, n: usize) -> io::Result<()>
     requires { n ≤ input_length }
 {
     let mut text = [49u8; INPUT];
@@ -155,29 +156,29 @@ fn longest(n: usize)
     let count = put_bytes(b"500\n", &mut text, 0);
     put_lines(4294966295, 4294967295, 1000, &mut text, count);
     let end = close_read(&text, n, &mut out);
-    io::write_all(1, &out[..end]);
+    rt.write_all(&out[..end])
 }
 
-fn limits() {
-    chain(61, 0, b"");
-    chain(61, 22, b"");
-    chain(61, 22, b"101 93 93\n");
-    chain(62, 0, b"");
-    clashes(400);
-    clashes(401);
-    repeated(2);
-    repeated(3);
+fn limits(rt: &impl Print) -> io::Result<()> {
+    chain(rt, 61, 0, b"")?;
+    chain(rt, 61, 22, b"")?;
+    chain(rt, 61, 22, b"101 93 93\n")?;
+    chain(rt, 62, 0, b"")?;
+    clashes(rt, 400)?;
+    clashes(rt, 401)?;
+    repeated(rt, 2)?;
+    repeated(rt, 3)?;
     // whole, without its last line feed, with a line too many, and ended within the second id of its last line
-    longest(LONGEST);
-    longest(LONGEST - 1);
-    longest(LONGEST + 1);
-    longest(LONGEST - 14);
+    longest(rt, LONGEST)?;
+    longest(rt, LONGEST - 1)?;
+    longest(rt, LONGEST + 1)?;
+    longest(rt, LONGEST - 14)
 }
 
-fn main() {
-    answers();
-    bad_counts();
-    bad_id_lines();
-    refusals();
-    limits();
+fn main(rt: HostRuntime) -> io::Result<()> {
+    answers(&rt)?;
+    bad_counts(&rt)?;
+    bad_id_lines(&rt)?;
+    refusals(&rt)?;
+    limits(&rt)
 }

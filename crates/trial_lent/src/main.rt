@@ -12,6 +12,7 @@ use dictionary_index::{Counters, start};
 use dictionary_layout::bytes::{same_bytes, same_numbers};
 use edge_records::FindingRecord;
 use lent::{fill_lent, put_lent};
+use std::io;
 use trial_buffers::tally::{Tally, no_calls};
 
 // The dictionary: 33 entries, and an arena of 12 bytes more than a start takes.
@@ -22,13 +23,10 @@ const ARENA: usize = 1337;
 // The greatest id.
 const MOST: u32 = 4294967295;
 
-fn print_list(name: &[u8], tally: Tally) {
-    io::write_all(1, name);
-    io::write_all(1, b": calls ");
-    io::print_decimal(1, tally.calls as u64);
-    io::write_all(1, b", differences ");
-    io::print_decimal(1, tally.differences as u64);
-    io::write_all(1, b"\n");
+fn print_list(rt: &impl Print, name: &str, tally: Tally) -> io::Result<()> {
+    let calls = tally.calls;
+    let differences = tally.differences;
+    println!(rt; "{name}: calls {calls}, differences {differences}")
 }
 
 // What a put must give: the answer, the counters, and whether table and arena stay as they are.
@@ -170,19 +168,19 @@ fn wrong_puts(table: &mut [u32; TABLE], arena: &mut [u8; ARENA]) -> State {
     step(table, arena, s, 2, b"", kept(10, 0, 33, 1337))
 }
 
-fn print_puts() {
+fn print_puts(rt: &impl Print) -> io::Result<()> {
     let mut table = [7u32; TABLE];
     let mut arena = [7u8; ARENA];
     let s = puts(&mut table, &mut arena);
-    print_list(b"put with lent counters", s.tally);
+    print_list(rt, "put with lent counters", s.tally)?;
     let r = refusals(&mut table, &mut arena);
-    print_list(b"put with lent counters, refused", r.tally);
+    print_list(rt, "put with lent counters, refused", r.tally)?;
     let t = broken_counters(&mut table, &mut arena);
-    print_list(b"put with lent counters that are broken", t.tally);
+    print_list(rt, "put with lent counters that are broken", t.tally)?;
     let u = last_bytes(&mut table, &mut arena);
-    print_list(b"put with lent counters, to the last byte", u.tally);
+    print_list(rt, "put with lent counters, to the last byte", u.tally)?;
     let w = wrong_puts(&mut table, &mut arena);
-    print_list(b"put with lent counters, wrong expectations", w.tally);
+    print_list(rt, "put with lent counters, wrong expectations", w.tally)
 }
 
 fn finding(check: u32, a: u32, b: u32, c: u32, d: u32) -> FindingRecord {
@@ -282,13 +280,17 @@ fn wrong_findings() -> Tally {
     wrong(t, 0, finding(1, 31, 32, 33, 1))
 }
 
-fn print_findings() {
-    print_list(b"findings as records", accepted());
-    print_list(b"findings as records, refused", refused());
-    print_list(b"findings as records, wrong expectations", wrong_findings());
+fn print_findings(rt: &impl Print) -> io::Result<()> {
+    print_list(rt, "findings as records", accepted())?;
+    print_list(rt, "findings as records, refused", refused())?;
+    print_list(
+        rt,
+        "findings as records, wrong expectations",
+        wrong_findings(),
+    )
 }
 
-fn main() {
-    print_puts();
-    print_findings();
+fn main(rt: HostRuntime) -> io::Result<()> {
+    print_puts(&rt)?;
+    print_findings(&rt)
 }

@@ -8,6 +8,7 @@ mod report; // report.rt: what is printed
 use calls::{LOAD, LOAD_ROOM};
 use lines::{Turn, play_line};
 use report::{end_list, print_difference, print_unreadable};
+use std::io;
 use trial_buffers::reader::read_number;
 use trial_buffers::tally::{Tally, no_calls};
 
@@ -32,54 +33,62 @@ struct Progress {
 }
 
 // The end of a list, whose tally is printed.
-fn ended(text: &[u8], at: usize, tally: Tally) -> Progress {
-    let end = end_list(text, at, tally);
-    Progress {
+fn ended(rt: &impl Print, text: &[u8], at: usize, tally: Tally) -> io::Result<Progress> {
+    let ended = end_list(rt, text, at, tally);
+    ended.printed?;
+    Ok(Progress {
         tally: no_calls(),
-        at: end.at,
-        ok: end.ok,
-    }
+        at: ended.end.at,
+        ok: ended.end.ok,
+    })
 }
 
 // A line that was played.
-fn played(turn: Turn, tally: Tally, line: usize) -> Progress {
+fn played(rt: &impl Print, turn: Turn, tally: Tally, line: usize) -> io::Result<Progress> {
     if turn.differences != 0 {
-        print_difference(line);
+        print_difference(rt, line)?;
     }
-    Progress {
+    Ok(Progress {
         tally: tally.with(turn.calls, turn.differences),
         at: turn.at,
         ok: turn.ok,
-    }
+    })
 }
 
 // Plays one line.
 fn step(
+    rt: &impl Print,
     text: &[u8],
     before: Progress,
     line: usize,
     memory: &mut [u32],
     expected: &mut [u32],
     saved: &mut [u32],
-) -> Progress {
+) -> io::Result<Progress> {
     let tally = before.tally;
     let first = read_number(text, before.at);
     if !first.ok {
-        return Progress {
+        return Ok(Progress {
             tally,
             at: before.at,
             ok: false,
-        };
+        });
     }
     if first.value == END {
-        return ended(text, first.at, tally);
+        return ended(rt, text, first.at, tally);
     }
     let turn = play_line(text, first, memory, expected, saved);
-    played(turn, tally, line)
+    played(rt, turn, tally, line)
 }
 
 // Plays the text: it has at most as many lines as bytes.
-fn play(text: &[u8], memory: &mut [u32], expected: &mut [u32], saved: &mut [u32]) {
+fn play(
+    rt: &impl Print,
+    text: &[u8],
+    memory: &mut [u32],
+    expected: &mut [u32],
+    saved: &mut [u32],
+) -> io::Result<()> {
     let mut progress = Progress {
         tally: no_calls(),
         at: 0,
@@ -88,41 +97,40 @@ fn play(text: &[u8], memory: &mut [u32], expected: &mut [u32], saved: &mut [u32]
     let mut line = 0;
     while line < text.len() {
         if text.len() <= progress.at {
-            return;
+            return Ok(());
         }
         line += 1;
         progress = step(
+            rt,
             text,
             progress,
             line,
             &mut *memory,
             &mut *expected,
             &mut *saved,
-        );
+        )?;
         if !progress.ok {
-            print_unreadable(line);
-            return;
+            return print_unreadable(rt, line);
         }
     }
+    Ok(())
 }
 
 // Plays the text on memories that hold zeros.
-fn play_text(text: &[u8]) {
+fn play_text(rt: &impl Print, text: &[u8]) -> io::Result<()> {
     let mut memory = [0u32; CELLS];
     let mut expected = [0u32; CELLS];
     let mut saved = [0u32; SAVED];
-    play(text, &mut memory, &mut expected, &mut saved);
+    play(rt, text, &mut memory, &mut expected, &mut saved)
 }
 
 // Plays what standard input has, as far as there is room for it.
-fn play_input(room: &mut [u8]) {
-    let n = io::read_full(0, &mut *room);
-    if n <= room.len() {
-        play_text(&room[..n]);
-    }
+fn play_input(rt: &HostRuntime, room: &mut [u8]) -> io::Result<()> {
+    let n = edge_input::read_full(&mut rt.stdin(), &mut *room)?;
+    play_text(rt, &room[..n])
 }
 
-fn main() {
+fn main(rt: HostRuntime) -> io::Result<()> {
     let mut room = [0u8; TEXT];
-    play_input(&mut room);
+    play_input(&rt, &mut room)
 }

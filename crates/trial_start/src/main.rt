@@ -7,6 +7,7 @@
 mod starts; // starts.rt: a start, held to what is said of it
 
 use starts::starts;
+use std::io;
 use trial_buffers::reader::read_number;
 
 // Room for the cases.
@@ -37,36 +38,33 @@ fn play(text: &[u8], at: usize) -> Case {
     }
 }
 
-fn print_case(what: &[u8], case: usize) {
-    io::write_all(1, what);
-    io::print_decimal(1, case as u64);
-    io::write_all(1, b"\n");
+fn print_case(rt: &impl Print, what: &str, case: usize) -> io::Result<()> {
+    println!(rt; "{what}{case}")
 }
 
 // Plays the cases, of which there are at most as many as bytes.
-fn play_text(text: &[u8]) {
+fn play_text(rt: &impl Print, text: &[u8]) -> io::Result<()> {
     let mut at = 0;
     let mut case = 0;
     while case < text.len() {
         if text.len() <= at {
-            print_case(b"starts: ", case);
-            return;
+            return print_case(rt, "starts: ", case);
         }
         case += 1;
         let played = play(text, at);
         at = played.at;
         if !played.ok {
-            print_case(b"cannot read case ", case);
-            return;
+            return print_case(rt, "cannot read case ", case);
         }
         if !played.agrees {
-            print_case(b"not as said: case ", case);
+            print_case(rt, "not as said: case ", case)?;
         }
     }
+    Ok(())
 }
 
-fn main() {
+fn main(rt: HostRuntime) -> io::Result<()> {
     let mut text = [0u8; TEXT];
-    let n = io::read_full(0, &mut text);
-    play_text(&text[..n]);
+    let n = edge_input::read_full(&mut rt.stdin(), &mut text)?;
+    play_text(&rt, &text[..n])
 }

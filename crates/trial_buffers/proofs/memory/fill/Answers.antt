@@ -1,0 +1,28 @@
+-- `trial_buffers::memory::fill` meets its contract. Assumes nothing.
+use Rattle.std.proofs.Common.{◌-◌, length, refl, arith, rules}
+use Rattle.common.proofs.Filling.{Filled, fill_start, fill_more, fill_end}
+use Rattle.trial_buffers.proofs.memory.fill.Goals as goal
+
+pub loop-i-init : goal.loop-i-init
+loop-i-init c = fill_start _ _
+
+pub offset_bounds-row-i : goal.offset_bounds-row-i
+offset_bounds-row-i c = search rules
+
+pub bounds-row-i : goal.bounds-row-i
+bounds-row-i c = search rules
+
+pub overflow_add-i : goal.overflow_add-i
+overflow_add-i c = search rules
+
+pub loop-i-smaller : goal.loop-i-smaller
+loop-i-smaller c = omega (arith, c.loop-i.invariant.long)
+
+pub loop-i-preserved : goal.loop-i-preserved
+loop-i-preserved c = fill_more c.loop-i.invariant _ c.loop-i-test.true refl
+
+pub shape_of-row : goal.shape_of-row
+shape_of-row c = c.loop-i.invariant.long
+
+pub returns : goal.returns
+returns c = fill_end c.loop-i.invariant c.loop-i-test.false
