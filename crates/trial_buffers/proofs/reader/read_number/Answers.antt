@@ -33,10 +33,10 @@ after-requires c = search rules
 pub returns-in-Bad : goal.returns-in-Bad
 returns-in-Bad c =
     read_none c.args.text.now c.args.at c.end_of_number-end.result c.if-text-at.false
-    c.end_of_number-end.ensures.0 c.number-field.ensures c.enum_told-1.given.1
+    c.end_of_number-end.ensures.0 c.number-field.ensures c.in-Bad.is
 
 pub returns-in-Number : goal.returns-in-Number
 returns-in-Number c =
     read_some c.args.text.now c.args.at c.end_of_number-end.result c.if-text-at.false
-    c.end_of_number-end.ensures.0 c.number-field.ensures c.field-1.given.1
+    c.end_of_number-end.ensures.0 c.number-field.ensures c.in-Number.is
     c.after.ensures

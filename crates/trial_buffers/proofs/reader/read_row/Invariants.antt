@@ -6,8 +6,8 @@ use Rattle.trial_buffers.proofs.reader.read_row.Given as goal
 
 abbrev pub invariant-loop-i : goal.invariant-loop-i
 invariant-loop-i l =
-    Filled (number_after any l.text (record { l.at = l.initial.at; l.ok = l.initial.ok })) l.initial.row l.row l.i
-    × (record { l.at = l.at; l.ok = l.ok } ≡ cursor_after any l.text (record { l.at = l.initial.at; l.ok = l.initial.ok }) l.i)
+    Filled (number_after any l.text (record { at = l.initial.at; ok = l.initial.ok })) l.initial.row l.row l.i
+    × (record { at = l.at; ok = l.ok } ≡ cursor_after any l.text (record { at = l.initial.at; ok = l.initial.ok }) l.i)
     × (l.i ≤ length l.initial.row)
 
 abbrev pub decreases-loop-i : goal.decreases-loop-i
