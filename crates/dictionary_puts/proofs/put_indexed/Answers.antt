@@ -13,17 +13,7 @@ use Rattle.dictionary_index.specs.Values.{put_left}
 use Rattle.dictionary_puts.specs.Indexed.{Indexed}
 use Rattle.dictionary_index.proofs.Refusals.{refusal_none, put_refuses}
 use Rattle.dictionary_puts.proofs.Indexing.{seeks, index_room, index_kept, index_more}
-use Rattle.dictionary_puts.proofs.put_indexed.Tie as tie
-use Rattle.dictionary_puts.proofs.put_indexed.Lts as lts
-use Rattle.dictionary_puts.proofs.put_indexed.Reads as reads
 use Rattle.dictionary_puts.proofs.put_indexed.Goals as goal
-
--- the term, which a put does not refuse where its digest is taken
-abbrev put-term : (lts.Start tie.the-claims reads.Pre reads.Post) → Term
-put-term z = term z.args.kind z.args.bytes.now
-
-accepted : (d : (lts.After-digest tie.the-claims reads.Pre reads.Post)) → term_refusal (put-term d.before.before.before.before.before.before.before) ≡ 0
-accepted d = sym d.put_refusal-refusal.ensures ∙ d.if-refusal-ne0.false
 
 pub put_refusal-refusal-requires : goal.put_refusal-refusal-requires
 put_refusal-refusal-requires c = search rules
@@ -36,26 +26,26 @@ returns-then-refusal-ne0 c =
     let table = c.args.table.now in
     let arena = c.args.arena.now in
     let d = contents table arena c.args.counters in
-    let e = c.refused_put.ensures in (
-      ap (λ (x : PutNext). put_left x table arena) e
-          ∙ put_refuses (put-term c.before.before.before.before.before.before.before.before) d c.requires.unbroken c.put_refusal-refusal.ensures c.if-refusal-ne0.true,
-      subst (λ (x : PutNext). Indexed (contents table arena x.counters) c.args.hash.now) (sym e) c.requires,
-    )
+    let e = c.refused_put.ensures in record {
+      arena_after = ap (λ (x : PutNext). put_left x table arena) e
+          ∙ put_refuses (term c.args.kind c.args.bytes.now) d c.requires.unbroken c.put_refusal-refusal.ensures c.if-refusal-ne0.true;
+      indexed = subst (λ (x : PutNext). Indexed (contents table arena x.counters) c.args.hash.now) (sym e) c.requires;
+    }
 
 pub digest-d-requires : goal.digest-d-requires
 digest-d-requires c =
-    let t = put-term c.before.before.before.before.before.before.before in
+    let t = (term c.args.kind c.args.bytes.now) in
     leb→le (length t.bytes) term_limit (refusal_none t (sym c.put_refusal-refusal.ensures ∙ c.if-refusal-ne0.false)).1
 
 pub seek-id-requires : goal.seek-id-requires
 seek-id-requires c =
-    seeks c.requires (put-term c.before.before.before.before.before.before.before.before) (accepted c.before) c.digest-d.ensures
+    seeks c.requires (term c.args.kind c.args.bytes.now) (sym c.put_refusal-refusal.ensures ∙ c.if-refusal-ne0.false) c.digest-d.ensures
 
 pub put_found-next-requires : goal.put_found-next-requires
 put_found-next-requires c =
     record {
       unbroken = c.requires.unbroken;
-      accepted = accepted c.before.before.before.before;
+      accepted = (sym c.put_refusal-refusal.ensures ∙ c.if-refusal-ne0.false);
       chained = ap (λ (x : Digest). x.chain) c.digest-d.ensures;
       place = c.seek-id.ensures;
     }
@@ -65,7 +55,7 @@ overflow_cast-counters c = search rules
 
 pub hash_entry-requires : goal.hash_entry-requires
 hash_entry-requires c =
-    index_room c.requires (put-term c.before.before.before.before.before.before.before.before.before.before.before.before.before.before.before.before.before.before.before.before.before) (accepted c.before.before.before.before.before.before.before.before.before.before.before.before.before.before) c.digest-d.ensures
+    index_room c.requires (term c.args.kind c.args.bytes.now) (sym c.put_refusal-refusal.ensures ∙ c.if-refusal-ne0.false) c.digest-d.ensures
 
 pub shape_of-table-then-counters-next : goal.shape_of-table-then-counters-next
 shape_of-table-then-counters-next c = search rules
@@ -78,10 +68,10 @@ shape_of-hash-then-counters-next c = search rules
 
 pub returns-then-counters-next : goal.returns-then-counters-next
 returns-then-counters-next c =
-    let e = c.put_found-next.ensures in (
-      e,
-      index_more c.requires (put-term c.before.before.before.before.before.before.before.before.before.before.before.before.before.before.before.before.before.before.before.before.before.before.before.before) e c.if-counters-next.true (accepted c.before.before.before.before.before.before.before.before.before.before.before.before.before.before.before.before.before) c.digest-d.ensures c.hash_entry.ensures,
-    )
+    let e = c.put_found-next.ensures in record {
+      arena_after = e;
+      indexed = index_more c.requires (term c.args.kind c.args.bytes.now) e c.if-counters-next.true (sym c.put_refusal-refusal.ensures ∙ c.if-refusal-ne0.false) c.digest-d.ensures c.hash_entry.ensures;
+    }
 
 pub shape_of-table-else-counters-next : goal.shape_of-table-else-counters-next
 shape_of-table-else-counters-next c = search rules
@@ -95,4 +85,4 @@ shape_of-hash-else-counters-next c = search rules
 pub returns-else-counters-next : goal.returns-else-counters-next
 returns-else-counters-next c =
     let e = c.put_found-next.ensures in
-    (e, index_kept c.requires (put-term c.before.before.before.before.before.before.before.before.before.before.before.before.before.before.before.before.before.before.before) e c.if-counters-next.false)
+    record { arena_after = e; indexed = index_kept c.requires (term c.args.kind c.args.bytes.now) e c.if-counters-next.false }
