@@ -23,6 +23,8 @@ VOCABULARY = set(
     "subPropertyOf subClassOf sameAs inverseOf equivalentProperty equivalentClass intersectionOf unionOf hasValue allValuesFrom"
     " someValuesFrom disjointWith onProperty complementOf propertyDisjointWith".split()
 )
+# Records that would have the name of a type of the sources, or of another record beside them.
+OTHER = {"Checked-entry": "CheckedNext", "Run-answer": "AnswerOfRun", "Turn-answer": "AnswerOfTurn"}
 DEFINED = re.compile(r"^( *)(?:(?:pub|abbrev|unfoldable|record|data|use) )*(" + W + r")(?: [^:\n]*)? :(?= |$)", re.M)
 USED = re.compile(r"^ *(?:ghost |pub )*use ([^\s{};]+?)(?:\.\{([^}]*)\})?;?$", re.M)
 SECTION = re.compile(r"\b(?:let|λ)\s+((?:" + W + r"\s+)*" + W + r")")
@@ -35,6 +37,8 @@ def read(path):
 
 def turned(name):
     """Today's spelling of a name of the repository's own."""
+    if name in OTHER:
+        return OTHER[name]
     if name in VOCABULARY or "◌" in name or not re.search(r"\w", name):
         return name
     if name[0].isupper():

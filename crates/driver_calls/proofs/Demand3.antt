@@ -27,7 +27,7 @@ use Rattle.dictionary_layout.specs.Layout.{decode}
 use Rattle.dictionary_layout.specs.Calls.{start_gives}
 use Rattle.dictionary_layout.proofs.Decoding.{decode_layout}
 use Rattle.driver_refusals.specs.Lent.{Lent}
-use Rattle.driver_load.specs.Closed.{RunAnswer, store_room, findings_room, outcome_answer, containers}
+use Rattle.driver_load.specs.Closed.{AnswerOfRun, store_room, findings_room, outcome_answer, containers}
 use Rattle.driver_run.proofs.Accepting.{runs_triples}
 use Rattle.driver_calls.specs.Calls.{Call, ran, ListLeft, events_of, terms_after}
 use Rattle.driver_calls.specs.Demand3.{stored, answer, found, Agree, Exact, list_gives, Demand3}
@@ -87,7 +87,7 @@ module _ (c : Containers) (b : Lent) (cap fcap : ℕ) (X : List Triple) (R : Lis
       }
 
 -- the same of a run that was read with the terms of its list's end
-module _ {ws : List Term} {b : Lent} {o : RunAnswer} (r : Reading ws b o) where
+module _ {ws : List Term} {b : Lent} {o : AnswerOfRun} (r : Reading ws b o) where
   read_answer : answer o ≡ erase r.rows
   read_answer =
       ap answer r.gives ∙ answer_of_accepted (containers ws) b (store_room b) (findings_room b) (triples b.load) r.rows
@@ -104,7 +104,7 @@ module _ {ws : List Term} {b : Lent} {o : RunAnswer} (r : Reading ws b o) where
       r.rows r.row r.n r.k r.runs Y s)
 
 -- three accepted runs of a list, read with the terms of its end
-batches : (tl al : ℕ) (ts : List Term) (cs : List Call) (b₁ b₂ b₃ : Lent) (o₁ o₂ o₃ : RunAnswer)
+batches : (tl al : ℕ) (ts : List Term) (cs : List Call) (b₁ b₂ b₃ : Lent) (o₁ o₂ o₃ : AnswerOfRun)
     → In (ran b₁ o₁) (events_of tl al ts cs)
     → In (ran b₂ o₂) (events_of tl al ts cs) → In (ran b₃ o₃) (events_of tl al ts cs)
     → o₁.number ≡ 0 → o₂.number ≡ 0 → o₃.number ≡ 0
@@ -126,14 +126,14 @@ batches tl al ts cs b₁ b₂ b₃ o₁ o₂ o₃ i₁ i₂ i₃ n₁ n₂ n₃ 
       record {
         same_triples = read_answer r₂ ∙ (e ∙ sym (read_answer r₃));
         same_findings = read_found r₂ ∙ (f ∙ sym (read_found r₃));
-        same_count = ap (λ (o : RunAnswer). o.count) r₂.gives ∙ (g ∙ sym (ap (λ (o : RunAnswer). o.count) r₃.gives));
-        same_counts = ap (λ (o : RunAnswer). o.counts) r₂.gives ∙ (k ∙ sym (ap (λ (o : RunAnswer). o.counts) r₃.gives));
+        same_count = ap (λ (o : AnswerOfRun). o.count) r₂.gives ∙ (g ∙ sym (ap (λ (o : AnswerOfRun). o.count) r₃.gives));
+        same_counts = ap (λ (o : AnswerOfRun). o.counts) r₂.gives ∙ (k ∙ sym (ap (λ (o : AnswerOfRun). o.counts) r₃.gives));
       },
       read_exact r₃ (A ++ B) s₃,
     )
 
 -- every accepted run of a list
-each_exact : (tl al : ℕ) (ts : List Term) (cs : List Call) (b : Lent) (o : RunAnswer)
+each_exact : (tl al : ℕ) (ts : List Term) (cs : List Call) (b : Lent) (o : AnswerOfRun)
     → In (ran b o) (events_of tl al ts cs) → o.number ≡ 0
     → Exact (containers (terms_after tl al ts cs)) (triples b.load) o
 each_exact tl al ts cs b o i n = read_exact (reading tl al ts cs b o i n) (triples b.load) (λ t j. j, λ t j. j)

@@ -8,7 +8,7 @@ use native.Mathlib.Omega.{arith}
 use lib.Dec.{T, ltb, eqb, ltb→lt}
 use lib.ListN.{length, get_or, get_or-append}
 use Rattle.driver_refusals.specs.Lent.{Lent}
-use Rattle.driver_load.specs.Closed.{RunAnswer, store_room, findings_room, outcome_answer, containers, closed}
+use Rattle.driver_load.specs.Closed.{AnswerOfRun, store_room, findings_room, outcome_answer, containers, closed}
 use Rattle.driver_run.specs.Run.{AbstractRunResult, run_all_put, run_passed, abstract_run}
 use Rattle.driver_turns.specs.Turns.{open_past, pass_past}
 use Rattle.driver_refusals.specs.RunRefusals.{first_refusal, run_refusals}
@@ -85,7 +85,7 @@ later us ws g h load k cap fcap =
     same t x = ap id_of (x.1 ∙ sym (ap (place_from 0 t) g.1 ∙ place_stays 0 t us g.0 x.0 x.1))
 
 -- EVERY ACCEPTED RUN OF A LIST, read with the terms of the list's end
-pub record Reading (ws : List Term) (b : Lent) (o : RunAnswer) : Type 0 where
+pub record Reading (ws : List Term) (b : Lent) (o : AnswerOfRun) : Type 0 where
   pub rows : List Row
   pub row : List Finding
   pub n : ℕ
@@ -113,7 +113,7 @@ accepted_reading tl al ts ws b l a g =
     below : (t : Triple) → In t (triples b.load) → length ts ≤ length a.terms → t.p < length a.terms
     below t i n = let h = ltb→lt t.p (length ts) (all_in (λ i. ltb i (length ts)) b.load a.known t i).1 in omega arith
 
-first_reading : (tl al : ℕ) (ts ws : List Term) (c : Call) (b : Lent) (o : RunAnswer)
+first_reading : (tl al : ℕ) (ts ws : List Term) (c : Call) (b : Lent) (o : AnswerOfRun)
     → ran b o ≡ event c (abstract_call tl al ts c).out → Grown (abstract_call tl al ts c).held ws → o.number ≡ 0
     → Reading ws b o
 unfolding abstract_call
@@ -148,9 +148,9 @@ first_reading tl al ts ws (run_on b') b o e g n =
     let q₂ : o ≡ (abstract_run tl al ts b').answer = cc in
     subst (λ (x : Lent). Reading ws x o) (sym q)
     (subst (Reading ws b') (sym q₂) (accepted_reading tl al ts ws b' (abstract_run tl al ts b')
-    (run_accepted tl al ts b' (ap (λ (x : RunAnswer). x.number) (sym q₂) ∙ n)) g))
+    (run_accepted tl al ts b' (ap (λ (x : AnswerOfRun). x.number) (sym q₂) ∙ n)) g))
 
-pub reading : (tl al : ℕ) (ts : List Term) (cs : List Call) (b : Lent) (o : RunAnswer)
+pub reading : (tl al : ℕ) (ts : List Term) (cs : List Call) (b : Lent) (o : AnswerOfRun)
     → In (ran b o) (events_of tl al ts cs) → o.number ≡ 0 → Reading (terms_after tl al ts cs) b o
 unfolding events_of terms_after
 reading tl al ts [] b o i n = absurd (in_nil i)

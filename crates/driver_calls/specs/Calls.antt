@@ -8,9 +8,9 @@ use Rattle.dictionary_layout.specs.Layout.{Dict}
 use Rattle.dictionary_layout.specs.Dictionary.{LookupAnswer, abstract_put, abstract_lookup}
 use Rattle.dictionary_layout.specs.Calls.{put_gives, lookup_gives}
 use Rattle.driver_refusals.specs.Lent.{Lent}
-use Rattle.driver_load.specs.Closed.{RunAnswer}
+use Rattle.driver_load.specs.Closed.{AnswerOfRun}
 use Rattle.driver_run.specs.Run.{abstract_run, run_gives}
-use Rattle.driver_step.specs.Step.{TurnAnswer}
+use Rattle.driver_step.specs.Step.{AnswerOfTurn}
 use Rattle.driver_turns.specs.Turns.{open_past, pass_past, abstract_turn, turn_gives}
 use Rattle.ntriples.specs.Reading.{ReadAnswer, abstract_read, read_gives}
 use Rattle.ntriples_canonical.specs.Calls.{WriteAnswer, abstract_write, write_gives}
@@ -30,8 +30,8 @@ pub data Call : Type 0 where
 pub data Out : Type 0 where
   put_gave : ℕ → ℕ → Out
   lookup_gave : LookupAnswer → Out
-  run_gave : RunAnswer → Out
-  turn_gave : TurnAnswer → Out
+  run_gave : AnswerOfRun → Out
+  turn_gave : AnswerOfTurn → Out
   read_gave : ReadAnswer → Out
   write_gave : WriteAnswer → Out
 
@@ -73,7 +73,7 @@ abbrev pub event : Call → Out → Event
 event c o = record { call = c; out = o }
 
 -- a run, and its answer
-abbrev pub ran : Lent → RunAnswer → Event
+abbrev pub ran : Lent → AnswerOfRun → Event
 ran b o = event (run_on b) (run_gave o)
 
 -- A LIST OF CALLS over contents: what each gave, and the contents at the end; a refused call stays in the list

@@ -13,22 +13,22 @@ use Rattle.dictionary_layout.specs.Terms.{start_terms}
 use Rattle.dictionary_layout.specs.Layout.{layout, decode}
 use Rattle.dictionary_layout.specs.Calls.{start_gives}
 use Rattle.driver_refusals.specs.Lent.{Lent}
-use Rattle.driver_load.specs.Closed.{RunAnswer, containers}
+use Rattle.driver_load.specs.Closed.{AnswerOfRun, containers}
 use Rattle.driver_calls.specs.Calls.{Call, Event, ran, ListLeft, calls_give, events_of, terms_after, number_of}
 
 -- the rows that a run's store holds, by its triple count, and the records of its findings, by its five counts
-abbrev pub stored : RunAnswer → List Row
+abbrev pub stored : AnswerOfRun → List Row
 stored o = rows_of (take (store_width * o.count) o.store)
 
 -- the answer: the triples of the rows, without pass and rule. Answers are compared, and loaded again, by this. REFERENCE 6.4
-abbrev pub answer : RunAnswer → List Triple
+abbrev pub answer : AnswerOfRun → List Triple
 answer o = erase (stored o)
 
-abbrev pub found : RunAnswer → List Finding
+abbrev pub found : AnswerOfRun → List Finding
 found o = findings_of (take (finding_width * total o.counts) o.findings)
 
 -- the same triples, findings, triple count and five counts. REFERENCE 8.3
-pub record Agree (o o' : RunAnswer) : Type 0 where
+pub record Agree (o o' : AnswerOfRun) : Type 0 where
   pub same_triples : answer o ≡ answer o'
   pub same_findings : found o ≡ found o'
   pub same_count : o.count ≡ o'.count
@@ -37,7 +37,7 @@ pub record Agree (o o' : RunAnswer) : Type 0 where
 -- The triples are exactly those of the load's closure without a zero id, ascending; the findings exactly the records whose check holds
 -- in that closure, zero ids included, ascending; each row has the pass and the rule that REFERENCE 6.5 says; and the six counts are those
 -- of the rows written.
-pub record Exact (c : Containers) (load : List Triple) (o : RunAnswer) : Type 1 where
+pub record Exact (c : Containers) (load : List Triple) (o : AnswerOfRun) : Type 1 where
   pub ascending : Ascending key_triple (answer o)
   pub sound : (C : Graph) → IsClosure c load C → (x y z : ℕ) → In (triple x y z) (answer o) → C x y z × T (no_zero (triple x y z))
   pub complete : (C : Graph) → IsClosure c load C → (x y z : ℕ) → C x y z → T (no_zero (triple x y z)) → In (triple x y z) (answer o)
@@ -67,13 +67,13 @@ pub record Demand3 (table arena : List ℕ) (cs : List Call) : Type 1 where
   -- refusal 1 never occurs
   pub unbroken : (e : Event) → In e (list_gives table arena cs).events → number_of e.out ≢ 1
   -- every accepted run of the list: exactly what the closure of its load says
-  pub exact_each : (b : Lent) (o : RunAnswer)
+  pub exact_each : (b : Lent) (o : AnswerOfRun)
       → In (ran b o) (list_gives table arena cs).events → o.number ≡ 0
       → Exact (containers_after table arena cs) (triples b.load) o
   -- wherever three accepted runs of the list load A, then A's answer with B, then A and B together, each load in any order and with any
   -- repeats; under the conditions on list triples and container properties, an id's term being read in the dictionary that the list leaves:
   -- the last two give the same, and it is what the closure of A and B together says
-  pub batch : (b₁ b₂ b₃ : Lent) (o₁ o₂ o₃ : RunAnswer)
+  pub batch : (b₁ b₂ b₃ : Lent) (o₁ o₂ o₃ : AnswerOfRun)
       → In (ran b₁ o₁) (list_gives table arena cs).events
       → In (ran b₂ o₂) (list_gives table arena cs).events
       → In (ran b₃ o₃) (list_gives table arena cs).events

@@ -24,7 +24,7 @@ use Rattle.dictionary_layout.proofs.Decoding.{decode_layout}
 use Rattle.dictionary_layout.proofs.Holding.{Holds, put_all_holds, valid→, valid_layout}
 use Rattle.dictionary_entries.proofs.Reading.{held, count}
 use Rattle.driver_refusals.specs.Lent.{Lent}
-use Rattle.driver_load.specs.Closed.{RunAnswer, closed_answer}
+use Rattle.driver_load.specs.Closed.{AnswerOfRun, closed_answer}
 use Rattle.driver_run.specs.Run.{unchanged, AbstractRunResult, run_all_put, run_passed, abstract_run, RunResult, run_laid}
 use Rattle.driver_run.specs.Run.{run_gives}
 use Rattle.driver_refusals.specs.RunRefusals.{first_refusal, run_refusals}
@@ -40,7 +40,7 @@ not_above a b h = ⊎_elim (λ p. p) (λ p. absurd (go (ltb a b) (lt→ltb a b p
     go true p q = absurd q
     go false p q = absurd p
 
-abbrev result : RunAnswer → Dict → RunResult
+abbrev result : AnswerOfRun → Dict → RunResult
 result a d = record { answer = a; contents = d }
 
 -- refusal 1

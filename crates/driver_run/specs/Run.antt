@@ -6,16 +6,16 @@ use Rattle.dictionary_layout.specs.Layout.{Dict, layout}
 use Rattle.dictionary_layout.specs.Dictionary.{AllPut, full, all_put, put_all}
 use Rattle.dictionary_layout.specs.Calls.{on_valid}
 use Rattle.driver_refusals.specs.Lent.{Lent}
-use Rattle.driver_load.specs.Closed.{RunAnswer, five_zeros, closed_answer}
+use Rattle.driver_load.specs.Closed.{AnswerOfRun, five_zeros, closed_answer}
 use Rattle.driver_refusals.specs.RunRefusals.{first_refusal, run_refusals}
 
 -- refused, with no buffer changed
-abbrev pub unchanged : ℕ → Lent → RunAnswer
+abbrev pub unchanged : ℕ → Lent → AnswerOfRun
 unchanged n b = record { number = n; count = 0; counts = five_zeros; store = b.store; findings = b.findings; work = b.work }
 
 -- A RUN, computed from the lengths of table and arena and the terms held: its answer, and the terms held afterwards
 pub record AbstractRunResult : Type 0 where
-  pub answer : RunAnswer
+  pub answer : AnswerOfRun
   pub held : List Term
 
 -- refusal 7 where there is no room for the run's three terms
@@ -32,7 +32,7 @@ abstract_run tl al ts b = run_passed (first_refusal (run_refusals (length ts) b)
 
 -- RUN: the answer, and the contents as they are left; refusal 1 first
 pub record RunResult : Type 0 where
-  pub answer : RunAnswer
+  pub answer : AnswerOfRun
   pub contents : Dict
 
 abbrev pub run_laid : Lent → ℕ → ℕ → List Term → RunResult

@@ -24,7 +24,7 @@ use Rattle.dictionary_entries.proofs.Putting.{abstract_put_held}
 use Rattle.driver_refusals.specs.Lent.{Lent, lent}
 use Rattle.driver_refusals.specs.RunRefusals.{Refusal, first_refusal, run_refusals}
 use Rattle.driver_refusals.proofs.Refusing.{Unmet, unmet_all, not_not}
-use Rattle.driver_load.specs.Closed.{RunAnswer, five_zeros, zeroed, outcome_answer}
+use Rattle.driver_load.specs.Closed.{AnswerOfRun, five_zeros, zeroed, outcome_answer}
 use Rattle.driver_run.proofs.PuttingAll.{Has}
 use Rattle.driver_step.specs.Step.{done_by, turn_shown, takes_pass, passed_answer}
 use Rattle.driver_turns.specs.Turns.{pass_past, pass_gives}
@@ -125,7 +125,7 @@ module _ (b : Lent) (s f w : List ℕ) (hs : length s ≡ length b.store) (hf : 
     };
     done = 0;
   }
-  shown_again (ended o) = ap (λ (a : RunAnswer). record { run = a; done = done_by o }) (outcome_again o)
+  shown_again (ended o) = ap (λ (a : AnswerOfRun). record { run = a; done = done_by o }) (outcome_again o)
 
   -- refusals 2 to 6, by more terms
   pub unmet_again : {n m : ℕ} → 0 ≡ first_refusal (run_refusals n b) → n ≤ m → work_width * (m + run_terms_count) ≤ length b.work

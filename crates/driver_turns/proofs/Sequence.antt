@@ -35,7 +35,7 @@ use Rattle.driver_load.specs.Loads.{Loaded}
 use Rattle.driver_run.specs.Run.{RunResult, run_gives}
 use Rattle.driver_run.proofs.PuttingAll.{grown_length, put_all_grows, Has, put_all_has, put_all_below}
 use Rattle.driver_run.proofs.Running.{Held, run_done, loaded}
-use Rattle.driver_step.specs.Step.{TurnAnswer, kept, done_by, turn_shown, takes_pass, turned, passed_answer}
+use Rattle.driver_step.specs.Step.{AnswerOfTurn, kept, done_by, turn_shown, takes_pass, turned, passed_answer}
 use Rattle.driver_turns.specs.Turns.{TurnResult, open_past, open_gives, pass_gives}
 use Rattle.driver_turns.specs.Sequence.{then_pass, turns_give, containers_then, done_for, TurnsRun}
 use Rattle.driver_turns.proofs.Turning.{result, past_7}
@@ -217,7 +217,7 @@ module _ (d : Dict) (b : Lent) (v : T (valid d)) (e : 0 ≡ first_refusal (run_r
         pass_again d' b' still_valid unmet
         (λ t j. subst (λ (l : List Term). Has l t) (sym decoded) (put_all_has tl al (decode d) run_terms us p t j))
         ∙ (λ j. result (passed_answer b' (decoded j)) d')
-        ∙ ap (λ (a : TurnAnswer). result a d') answer
+        ∙ ap (λ (a : AnswerOfTurn). result a d') answer
 
   -- EACH CALL of the sequence shows what the call over rows leaves
   module _ (t : TurnsEnd c cap fcap load) where

@@ -29,13 +29,13 @@ use Rattle.driver_refusals.proofs.Refusing.{unmet_all, not_not}
 use Rattle.driver_load.specs.Loads.{Termed, Loaded}
 use Rattle.driver_run.proofs.PuttingAll.{Grown, grown_length, put_all_grows}
 use Rattle.driver_run.proofs.Running.{Held, held_then, termed, loaded, buffer}
-use Rattle.driver_step.specs.Step.{TurnAnswer, kept, turn_shown, opened_answer, takes_pass, turned, passed_answer}
+use Rattle.driver_step.specs.Step.{AnswerOfTurn, kept, turn_shown, opened_answer, takes_pass, turned, passed_answer}
 use Rattle.driver_turns.specs.Admission.{not_admitted, admitted, admission}
 use Rattle.driver_turns.specs.Turns.{AbstractTurnResult, Past7, open_past, pass_past, turn_all_put, turn_passed, abstract_turn}
 use Rattle.driver_turns.specs.Turns.{TurnResult, turn_laid, turn_gives, open_gives, pass_gives}
 
 -- a call's answer with the contents that it leaves
-abbrev pub result : TurnAnswer → Dict → TurnResult
+abbrev pub result : AnswerOfTurn → Dict → TurnResult
 result a d = record { answer = a; contents = d }
 
 module _ (d : Dict) (b : Lent) where
@@ -220,7 +220,7 @@ module _ (d : Dict) (b : Lent) where
         (λ i. layout (h i) (k i) (first i)) ∙ laid A.sound
 
     -- what the pass answers
-    abbrev passed : TurnAnswer
+    abbrev passed : AnswerOfTurn
     passed = passed_answer b (decode x.contents)
 
     -- what the pass gives, by whether the store can take it

@@ -11,11 +11,11 @@ use Rattle.dictionary_layout.specs.Layout.{Dict, decode}
 use Rattle.driver_refusals.specs.Lent.{Lent, lent}
 use Rattle.driver_load.specs.Closed.{store_room, containers}
 use Rattle.driver_run.specs.Run.{run_gives}
-use Rattle.driver_step.specs.Step.{TurnAnswer, turn_shown}
+use Rattle.driver_step.specs.Step.{AnswerOfTurn, turn_shown}
 use Rattle.driver_turns.specs.Turns.{TurnResult, open_gives, pass_gives}
 
 -- what the next call of a sequence is lent: the same load, and the buffers as the call before left them
-abbrev pub next_lent : Lent → TurnAnswer → Lent
+abbrev pub next_lent : Lent → AnswerOfTurn → Lent
 next_lent b a = lent b.load a.run.store a.run.findings a.run.work
 
 abbrev pub then_pass : Lent → TurnResult → TurnResult

@@ -8,11 +8,11 @@ use Rattle.dictionary_layout.specs.Dictionary.{AllPut, full, all_put, put_all}
 use Rattle.dictionary_layout.specs.Calls.{on_valid}
 use Rattle.driver_refusals.specs.Lent.{Lent}
 use Rattle.driver_refusals.specs.RunRefusals.{first_refusal, run_refusals}
-use Rattle.driver_step.specs.Step.{TurnAnswer, kept, opened_answer, takes_pass, passed_answer}
+use Rattle.driver_step.specs.Step.{AnswerOfTurn, kept, opened_answer, takes_pass, passed_answer}
 
 -- a call's answer, and the terms held afterwards
 pub record AbstractTurnResult : Type 0 where
-  pub answer : TurnAnswer
+  pub answer : AnswerOfTurn
   pub held : List Term
 
 -- what a call does past refusal 7: lent b, with the terms held before the run's three were put, and those held since
@@ -41,7 +41,7 @@ abstract_turn f tl al ts b = turn_passed f (first_refusal (run_refusals (length 
 
 -- the answer, and the contents as they are left; refusal 1 first
 pub record TurnResult : Type 0 where
-  pub answer : TurnAnswer
+  pub answer : AnswerOfTurn
   pub contents : Dict
 
 abbrev pub turn_laid : Past7 → Lent → ℕ → ℕ → List Term → TurnResult

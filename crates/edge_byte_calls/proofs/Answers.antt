@@ -25,7 +25,7 @@ use Rattle.dictionary_layout.specs.Terms.{Term, run_terms, property_term, member
 use Rattle.dictionary_layout.specs.Dictionary.{place_of, id_of}
 use Rattle.dictionary_layout.proofs.Holding.{Holds, put_all_holds}
 use Rattle.driver_refusals.specs.Lent.{Lent}
-use Rattle.driver_load.specs.Closed.{RunAnswer, containers}
+use Rattle.driver_load.specs.Closed.{AnswerOfRun, containers}
 use Rattle.driver_run.specs.Run.{AbstractRunResult, abstract_run}
 use Rattle.driver_run.proofs.Accepting.{AcceptedRun, runs_triples, run_accepted}
 use Rattle.driver_run.proofs.PuttingAll.{grown_length, put_all_grows, put_all_below}
@@ -130,11 +130,11 @@ module _ {tl al : ℕ} {ts : List Term} (h : Holds tl al ts) {b : Lent} {l : Abs
       (answer_ids r.it (in_erase i), omega (arith, a.few), omega arith))
 
   fit_store : FitBytes l.answer.store
-  fit_store = subst (λ (o : RunAnswer). FitBytes o.store) (sym a.gives) (fit_filled b.store (flat_rows a.rows) fit_stored)
+  fit_store = subst (λ (o : AnswerOfRun). FitBytes o.store) (sym a.gives) (fit_filled b.store (flat_rows a.rows) fit_stored)
 
   fit_findings : FitBytes l.answer.findings
   fit_findings =
-      subst (λ (o : RunAnswer). FitBytes o.findings) (sym a.gives)
+      subst (λ (o : AnswerOfRun). FitBytes o.findings) (sym a.gives)
       (fit_filled b.findings (flat_findings a.row) (fit_flat_findings a.row known))
     where
       known : (x : Finding) → In x a.row → Ids x
@@ -145,13 +145,13 @@ module _ {tl al : ℕ} {ts : List Term} (h : Holds tl al ts) {b : Lent} {l : Abs
           (omega arith, p, q, r, s)
 
   fit_work : FitBytes l.answer.work
-  fit_work = subst (λ (o : RunAnswer). FitBytes o.work) (sym a.gives) (fit_zeros (length b.work))
+  fit_work = subst (λ (o : AnswerOfRun). FitBytes o.work) (sym a.gives) (fit_zeros (length b.work))
 
   -- the triples that it left, copied from its store, and then those of B are a load of its answer with B
   left_copied : copied l.answer.count (bytes_of l.answer.store) ≡ bytes_of (flat N)
   left_copied =
       let R = flat_rows a.rows in
-      ap (λ (o : RunAnswer). copied o.count (bytes_of o.store)) a.gives
+      ap (λ (o : AnswerOfRun). copied o.count (bytes_of o.store)) a.gives
       ∙ (ap (λ (k : ℕ). copied k (bytes_of (filled b.store R))) (accepted_run.count ∙ length_erase a.rows)
       ∙ copied_rows a.rows (replicate (length b.store - length R) 0))
 
@@ -193,4 +193,4 @@ answer_loads {tl} {al} {ts} h b m e B f =
     let w = left_written o.number b.store o.store (changes_0 o.number e) refl in
     ap (λ (x : List ℕ). triples (read_buffer (copied o.count x ++ bytes_of (flat B)))) (sym w)
     ∙ (load_again h (run_accepted tl al ts m e) B f
-    ∙ ap (λ (x : RunAnswer). answer x ++ B) (sym (answer_read h b m e)))
+    ∙ ap (λ (x : AnswerOfRun). answer x ++ B) (sym (answer_read h b m e)))

@@ -14,7 +14,7 @@ use Rattle.dictionary_layout.specs.Calls.{start_gives}
 use Rattle.dictionary_layout.proofs.Chains.{arena_part}
 use Rattle.dictionary_layout.proofs.Decoding.{decode_layout}
 use Rattle.driver_refusals.specs.Lent.{Lent}
-use Rattle.driver_load.specs.Closed.{RunAnswer, containers}
+use Rattle.driver_load.specs.Closed.{AnswerOfRun, containers}
 use Rattle.driver_calls.specs.Calls.{Call, lookup, run_on, run_gave, event, ListLeft, calls_give, terms_after}
 use Rattle.driver_calls.specs.Demand3.{answer, Agree, Exact, Demand3}
 use Rattle.driver_calls.proofs.Demand3.{demand_3}
@@ -70,7 +70,7 @@ module _ (table arena : List ℕ) (s : (start_bytes_give table arena).number ≡
   unbroken e i = byte_events_unbroken tl al start_terms cs (starts table arena s) e (subst (In e) events i)
 
   -- an accepted run of the list is a run of the list read as numbers
-  run_of : (b : Lent) (o : RunAnswer) → In (byte_event (run_on b) (run_out o)) (list_gives table arena cs).events → o.number ≡ 0
+  run_of : (b : Lent) (o : AnswerOfRun) → In (byte_event (run_on b) (run_out o)) (list_gives table arena cs).events → o.number ≡ 0
       → In (event (run_on (read_lent b)) (run_gave (read_answer o))) given.events × NextLoad o
   run_of b o i n =
       let (j, x) = run_read tl al start_terms cs (starts table arena s) b o (subst (In (byte_event (run_on b) (run_out o))) events i) n in

@@ -16,7 +16,7 @@ use Rattle.dictionary_layout.specs.Layout.{size}
 use Rattle.dictionary_layout.specs.Dictionary.{LookupAnswer, lookup_answer, term_of, abstract_lookup}
 use Rattle.dictionary_layout.proofs.Holding.{Holds}
 use Rattle.driver_refusals.specs.Lent.{Lent}
-use Rattle.driver_load.specs.Closed.{RunAnswer}
+use Rattle.driver_load.specs.Closed.{AnswerOfRun}
 use Rattle.driver_run.specs.Run.{abstract_run}
 use Rattle.driver_run.proofs.PuttingAll.{Grown, grown_length, grown_trans}
 use Rattle.driver_calls.specs.Calls.{Call, put, lookup, run_on, open_on, pass_on, read_in, write_in, run_gave, abstract_call, event}
@@ -118,7 +118,7 @@ module _ (tl al : ℕ) (ts : List Term) (cs : List Call) (h : Holds tl al ts) wh
       never_1 tl al us (read_call e.call) (sym (same_number tl al us e.call) ∙ (sym (ap byte_number_of o.gave) ∙ n))
 
   -- AN ACCEPTED RUN
-  pub run_read : (b : Lent) (o : RunAnswer) → In (byte_event (run_on b) (run_out o)) (byte_events_of tl al ts cs) → o.number ≡ 0
+  pub run_read : (b : Lent) (o : AnswerOfRun) → In (byte_event (run_on b) (run_out o)) (byte_events_of tl al ts cs) → o.number ≡ 0
       → In (event (run_on (read_lent b)) (run_gave (read_answer o))) (events_of tl al ts (map read_call cs)) × NextLoad o
   unfolding abstract_out abstract_call
   run_read b o i n =
@@ -127,10 +127,10 @@ module _ (tl al : ℕ) (ts : List Term) (cs : List Call) (h : Holds tl al ts) wh
       let a = (abstract_run tl al x.before m).answer in
       let f : run_out o ≡ run_out (answer_in_bytes b a) = x.gave in
       let q : o ≡ answer_in_bytes b a = cc in
-      let z : a.number ≡ 0 = sym (ap (λ (r : RunAnswer). r.number) q) ∙ n in
-      let r : read_answer o ≡ a = ap (λ (y : RunAnswer). read_answer y) q ∙ answer_read x.holds b m z in (
-        subst (λ (y : RunAnswer). In (event (run_on m) (run_gave y)) (events_of tl al ts (map read_call cs))) (sym r) x.read,
-        subst (λ (y : RunAnswer). NextLoad y) (sym q) (answer_loads x.holds b m z),
+      let z : a.number ≡ 0 = sym (ap (λ (r : AnswerOfRun). r.number) q) ∙ n in
+      let r : read_answer o ≡ a = ap (λ (y : AnswerOfRun). read_answer y) q ∙ answer_read x.holds b m z in (
+        subst (λ (y : AnswerOfRun). In (event (run_on m) (run_gave y)) (events_of tl al ts (map read_call cs))) (sym r) x.read,
+        subst (λ (y : AnswerOfRun). NextLoad y) (sym q) (answer_loads x.holds b m z),
       )
 
   -- AN ACCEPTED LOOKUP

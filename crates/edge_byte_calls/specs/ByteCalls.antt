@@ -6,9 +6,9 @@ use Rattle.dictionary_layout.specs.Terms.{Term, start_terms}
 use Rattle.dictionary_layout.specs.Layout.{Dict, dict, size, layout}
 use Rattle.dictionary_layout.specs.Dictionary.{abstract_put, abstract_lookup}
 use Rattle.driver_refusals.specs.Lent.{Lent}
-use Rattle.driver_load.specs.Closed.{RunAnswer}
+use Rattle.driver_load.specs.Closed.{AnswerOfRun}
 use Rattle.driver_run.specs.Run.{abstract_run}
-use Rattle.driver_step.specs.Step.{TurnAnswer}
+use Rattle.driver_step.specs.Step.{AnswerOfTurn}
 use Rattle.driver_turns.specs.Turns.{open_past, pass_past, abstract_turn}
 use Rattle.ntriples.specs.Reading.{ReadAnswer, abstract_read}
 use Rattle.ntriples_canonical.specs.Calls.{WriteAnswer, abstract_write}
@@ -22,8 +22,8 @@ use Rattle.edge_c.specs.Calls.{run_bytes_give, turn_bytes_give, load_in_bytes, r
 pub data ByteOut : Type 0 where
   put_out : ℕ → ℕ → ByteOut
   place_out : PlaceAnswer → ByteOut
-  run_out : RunAnswer → ByteOut
-  turn_out : TurnAnswer → ByteOut
+  run_out : AnswerOfRun → ByteOut
+  turn_out : AnswerOfTurn → ByteOut
   read_out : ReadAnswer → ByteOut
   write_out : WriteAnswer → ByteOut
 
@@ -77,7 +77,7 @@ unfoldable pub abstract_place : List Term → ℕ → PlaceAnswer
 abstract_place ts i = place_at (size (take i ts)) (abstract_lookup ts i)
 
 -- the answer a of an opening call or a pass that was lent the buffers b of bytes
-abbrev pub turn_answer_in_bytes : Lent → TurnAnswer → TurnAnswer
+abbrev pub turn_answer_in_bytes : Lent → AnswerOfTurn → AnswerOfTurn
 turn_answer_in_bytes b a = record { run = answer_in_bytes b a.run; done = a.done }
 
 unfoldable pub abstract_out : ℕ → ℕ → List Term → Call → ByteOut

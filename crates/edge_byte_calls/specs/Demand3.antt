@@ -10,7 +10,7 @@ use Rattle.dictionary_layout.specs.Terms.{Term}
 use Rattle.dictionary_layout.specs.Layout.{decode}
 use Rattle.dictionary_layout.specs.Dictionary.{term_of}
 use Rattle.driver_refusals.specs.Lent.{Lent}
-use Rattle.driver_load.specs.Closed.{RunAnswer, containers}
+use Rattle.driver_load.specs.Closed.{AnswerOfRun, containers}
 use Rattle.driver_calls.specs.Calls.{Call, lookup, run_on}
 use Rattle.driver_calls.specs.Demand3.{answer, Agree, Exact}
 use Rattle.edge_bytes.specs.Bytes.{bytes_of, FitBytes, read_buffer}
@@ -19,7 +19,7 @@ use Rattle.edge_byte_calls.specs.ByteCalls.{place_out, run_out, ByteEvent, byte_
 use Rattle.edge_byte_calls.specs.ByteCalls.{abstract_bytes, byte_number_of}
 
 -- the answer of a run, with the bytes that it left read as numbers
-abbrev pub read_answer : RunAnswer → RunAnswer
+abbrev pub read_answer : AnswerOfRun → AnswerOfRun
 read_answer o = record {
   number = o.number;
   count = o.count;
@@ -46,7 +46,7 @@ copied zero store = []
 copied (suc n) store = take triple_bytes store ++ copied n (drop row_bytes store)
 
 -- the bytes of the triples that a run left, copied so, and then those of any B are a load of the run's answer with B
-abbrev pub NextLoad : RunAnswer → Type 0
+abbrev pub NextLoad : AnswerOfRun → Type 0
 NextLoad o =
     (B : List Triple) → FitBytes (flat B)
     → triples (read_buffer (copied o.count o.store ++ bytes_of (flat B))) ≡ answer (read_answer o) ++ B
@@ -70,16 +70,16 @@ pub record Demand3Bytes (table arena : List ℕ) (cs : List Call) : Type 1 where
   pub lookups : (i : ℕ) (p : PlaceAnswer) → In (byte_event (lookup i) (place_out p)) (list_gives table arena cs).events → p.number ≡ 0
       → take p.len (drop p.begin (list_gives table arena cs).contents.arena) ≡ (term_of (terms_named table arena cs) i).bytes
   -- every accepted run of the list: exactly what the closure of its load says
-  pub exact_each : (b : Lent) (o : RunAnswer)
+  pub exact_each : (b : Lent) (o : AnswerOfRun)
       → In (byte_event (run_on b) (run_out o)) (list_gives table arena cs).events → o.number ≡ 0
       → Exact (containers (terms_named table arena cs)) (loaded b) (read_answer o)
   -- what it writes the next run reads
-  pub next_load : (b : Lent) (o : RunAnswer)
+  pub next_load : (b : Lent) (o : AnswerOfRun)
       → In (byte_event (run_on b) (run_out o)) (list_gives table arena cs).events → o.number ≡ 0 → NextLoad o
   -- wherever three accepted runs of the list load A, then A's answer, read from the bytes of the first run's store, with B, then A and B
   -- together, each load in any order and with any repeats; under the conditions of `Demand3`: the last two give the same, and it is
   -- what the closure of A and B together says
-  pub batch : (b₁ b₂ b₃ : Lent) (o₁ o₂ o₃ : RunAnswer)
+  pub batch : (b₁ b₂ b₃ : Lent) (o₁ o₂ o₃ : AnswerOfRun)
       → In (byte_event (run_on b₁) (run_out o₁)) (list_gives table arena cs).events
       → In (byte_event (run_on b₂) (run_out o₂)) (list_gives table arena cs).events
       → In (byte_event (run_on b₃) (run_out o₃)) (list_gives table arena cs).events

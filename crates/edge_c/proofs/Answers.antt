@@ -18,9 +18,9 @@ use Rattle.dictionary_layout.proofs.Choice.{if_yes, if_no, false→not_T, decide
 use Rattle.dictionary_entries.proofs.Reading.{count, lengths}
 use Rattle.driver_refusals.specs.Lent.{Lent}
 use Rattle.driver_refusals.specs.RunRefusals.{first_refusal, run_refusals}
-use Rattle.driver_load.specs.Closed.{RunAnswer, five_zeros, outcome_answer}
+use Rattle.driver_load.specs.Closed.{AnswerOfRun, five_zeros, outcome_answer}
 use Rattle.driver_run.specs.Run.{unchanged}
-use Rattle.driver_step.specs.Step.{TurnAnswer, kept}
+use Rattle.driver_step.specs.Step.{AnswerOfTurn, kept}
 use Rattle.driver_turns.specs.Turns.{AbstractTurnResult, Past7, turn_all_put, turn_passed, abstract_turn, TurnResult, turn_laid}
 use Rattle.driver_turns.specs.Turns.{turn_gives}
 use Rattle.edge_bytes.specs.Bytes.{read_buffer, changes, left_bytes, cleared}
@@ -49,20 +49,20 @@ unfolding changes
 yes_9 = refl
 
 -- an answer, from its six parts
-abbrev answer : ℕ → ℕ → List ℕ → List ℕ → List ℕ → List ℕ → RunAnswer
+abbrev answer : ℕ → ℕ → List ℕ → List ℕ → List ℕ → List ℕ → AnswerOfRun
 answer n count counts s f w = record { number = n; count = count; counts = counts; store = s; findings = f; work = w }
 
 -- ANSWERS: what the code leaves of one in the buffers b of bytes; it writes no numbers to the list work buffer, but zeros
-abbrev pub left_answer : Lent → RunAnswer → RunAnswer
+abbrev pub left_answer : Lent → AnswerOfRun → AnswerOfRun
 left_answer b a =
     answer a.number a.count a.counts (left_bytes a.number b.store a.store)
     (left_bytes a.number b.findings a.findings) (cleared a.number b.work)
 
-abbrev pub left_turn : Lent → TurnAnswer → TurnAnswer
+abbrev pub left_turn : Lent → AnswerOfTurn → AnswerOfTurn
 left_turn b a = record { run = left_answer b a.run; done = a.done }
 
 -- and what the definition gives
-abbrev pub given_turn : Lent → TurnAnswer → TurnAnswer
+abbrev pub given_turn : Lent → AnswerOfTurn → AnswerOfTurn
 given_turn b a = record { run = answer_in_bytes b a.run; done = a.done }
 
 -- what the code leaves of a call's result, over a table of bytes
@@ -114,7 +114,7 @@ pub record Alike (b : Lent) (x y : AbstractTurnResult) : Type 0 where
   pub terms : x.held ≡ y.held
 
 -- a call's answer, with the contents that it leaves
-abbrev result : TurnAnswer → Dict → TurnResult
+abbrev result : AnswerOfTurn → Dict → TurnResult
 result a d = record { answer = a; contents = d }
 
 -- what a call computes, with the terms laid out again

@@ -9,7 +9,7 @@ use Rattle.dictionary_entries.specs.Entries.{start_of}
 use Rattle.dictionary_layout.specs.Calls.{StartResult, start_result, start_gives, PutResult, put_result, put_gives, lookup_gives}
 use Rattle.dictionary_index.specs.Values.{begin_at}
 use Rattle.driver_refusals.specs.Lent.{Lent, lent}
-use Rattle.driver_load.specs.Closed.{RunAnswer}
+use Rattle.driver_load.specs.Closed.{AnswerOfRun}
 use Rattle.driver_run.specs.Run.{RunResult, run_gives}
 use Rattle.driver_turns.specs.Turns.{Past7, TurnResult, turn_gives}
 use Rattle.ntriples.specs.Reading.{ReadAnswer, read_answer, ReadResult, read_gives}
@@ -67,7 +67,7 @@ abbrev pub read_lent : Lent → Lent
 read_lent b = lent (read_buffer b.load) (read_buffer b.store) (read_buffer b.findings) (read_buffer b.work)
 
 -- the answer a of a run that was lent the buffers b of bytes
-abbrev pub answer_in_bytes : Lent → RunAnswer → RunAnswer
+abbrev pub answer_in_bytes : Lent → AnswerOfRun → AnswerOfRun
 answer_in_bytes b a = record {
   number = a.number;
   count = a.count;

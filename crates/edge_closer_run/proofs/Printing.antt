@@ -16,7 +16,7 @@ use Rattle.dictionary_layout.specs.Dictionary.{valid}
 use Rattle.dictionary_layout.specs.Calls.{StartResult, start_gives}
 use Rattle.dictionary_layout.specs.Terms.{Term}
 use Rattle.driver_refusals.specs.Lent.{Lent, lent}
-use Rattle.driver_load.specs.Closed.{RunAnswer, containers}
+use Rattle.driver_load.specs.Closed.{AnswerOfRun, containers}
 use Rattle.driver_run.specs.Run.{RunResult, unchanged, run_laid, abstract_run, run_gives}
 use Rattle.driver_run.specs.Values.{run_left}
 use Rattle.driver_load.specs.declared.values.RunAnswer.{RunAnswer}
@@ -44,7 +44,7 @@ without_few (t ∷ ts) = go (no_zero t) (without_few ts)
     go false h = omega arith
 
 -- counts that the buffers have room for
-pub record Counted (a : RunAnswer) (cap fcap : ℕ) : Type 0 where
+pub record Counted (a : AnswerOfRun) (cap fcap : ℕ) : Type 0 where
   pub triples_fit : a.count ≤ cap
   pub five : length a.counts ≡ 5
   pub records_fit : total a.counts ≤ fcap
@@ -71,7 +71,7 @@ module _ (b : Lent) where
       let g = a.records in
       let m = a.count in
       let five : length r.k ≡ 5 = ap length a.counts in
-      subst (λ (x : RunAnswer). Counted x cap fcap) (sym r.gives)
+      subst (λ (x : AnswerOfRun). Counted x cap fcap) (sym r.gives)
       (record { triples_fit = omega arith; five = five; records_fit = omega arith })
 
   pub counted : (d : Dict) → (run_gives d b).answer.number ≡ 0 → Counted (run_gives d b).answer cap fcap
@@ -106,7 +106,7 @@ ran_as n load store findings x d {r} {t} {a} {s} {f} {w} e₁ e₂ e₃ =
     }
 
 -- in the program's buffers
-abbrev run_of : ℕ → List ℕ → RunAnswer
+abbrev run_of : ℕ → List ℕ → AnswerOfRun
 run_of n load = ran n load (replicate store_length 0) (replicate findings_length 0)
 
 module _ (n : ℕ) (load : List ℕ) {r : RunAnswer} {s f : List ℕ} (h : Ran (run_of n load) r s f) where

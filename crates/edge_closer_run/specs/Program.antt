@@ -6,7 +6,7 @@ use Rattle.dictionary_layout.specs.Terms.{term}
 use Rattle.dictionary_layout.specs.Layout.{Dict}
 use Rattle.dictionary_layout.specs.Calls.{start_gives, put_gives}
 use Rattle.driver_refusals.specs.Lent.{lent}
-use Rattle.driver_load.specs.Closed.{RunAnswer}
+use Rattle.driver_load.specs.Closed.{AnswerOfRun}
 use Rattle.driver_run.specs.Run.{run_gives}
 use Rattle.edge_closer_text.specs.Sizes.{store_length, findings_length}
 use Rattle.edge_closer_text.specs.Input.{Parsed, bad_line, input, parse}
@@ -23,11 +23,11 @@ unfoldable pub dictionary : ℕ → Dict
 dictionary n = named n (start_gives (replicate table_length 0) (replicate arena_length 0)).contents
 
 -- a run over it, in this store and these findings
-unfoldable pub ran : ℕ → List ℕ → List ℕ → List ℕ → RunAnswer
+unfoldable pub ran : ℕ → List ℕ → List ℕ → List ℕ → AnswerOfRun
 ran n load store findings = (run_gives (dictionary n) (lent load store findings (replicate work_length 0))).answer
 
 -- a run in print, by its number
-abbrev pub by_number : ℕ → RunAnswer → List ℕ
+abbrev pub by_number : ℕ → AnswerOfRun → List ℕ
 by_number zero r = answer r.store r.count r.findings (total r.counts)
 by_number (suc n) r = refusal (suc n)
 

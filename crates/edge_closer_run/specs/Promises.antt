@@ -1,12 +1,12 @@
 -- What the functions promise. Assumes nothing.
 use Rattle.std.specs.Prelude.{◌≡◌, List, ℕ, length, take}
 use Rattle.edge_decimal.specs.Promises.{Wrote}
-use Rattle.driver_load.specs.Closed.{RunAnswer}
+use Rattle.driver_load.specs.Closed.{AnswerOfRun}
 use Rattle.driver_load.specs.declared.values.RunAnswer.{RunAnswer}
 use Rattle.edge_closer_run.specs.Program.{output}
 
 -- the answer of a run, with store and findings as they are left
-pub record Ran (a : RunAnswer) (r : RunAnswer) (store findings : List ℕ) : Type 0 where
+pub record Ran (a : AnswerOfRun) (r : RunAnswer) (store findings : List ℕ) : Type 0 where
   pub number : r.number ≡ a.number
   pub count : r.count ≡ a.count
   pub counts : r.counts ≡ a.counts

@@ -43,10 +43,10 @@ shape_of-work-then-answer-ne0 c =
 pub returns-then-answer-ne0 : goal.returns-then-answer-ne0
 returns-then-answer-ne0 c =
     let b = (lent c.args.load.now c.args.store.now c.args.findings.now c.args.work.now) in
-    let store = c.answer_load-answer.last.1.1.1.1.0 in
-    let findings = c.answer_load-answer.last.1.1.1.1.1.0 in
-    let work = c.answer_load-answer.last.1.1.1.1.1.1.0 in
-    outcome_refused b (lent b.load c.clear_from.last.0 c.clear_from-then-answer-ne0.new.buf c.clear.last.0) _ c.answer_load-answer.ensures
+    let store = c.answer_load-answer.new.store in
+    let findings = c.answer_load-answer.new.findings in
+    let work = c.answer_load-answer.new.work in
+    outcome_refused b (lent b.load c.clear_from.new.buf c.clear_from-then-answer-ne0.new.buf c.clear.new.work) _ c.answer_load-answer.ensures
     (λ e. omega (arith, e, c.if-answer-ne0.true))
     (zeros_again store b.store (clear_all store c.clear_from.ensures) c.answer_load-answer.auto.store)
     (zeros_again findings b.findings (clear_all findings c.clear_from-then-answer-ne0.ensures) c.answer_load-answer.auto.findings)
@@ -67,7 +67,7 @@ shape_of-work-else-answer-ne0 c =
 pub returns-else-answer-ne0 : goal.returns-else-answer-ne0
 returns-else-answer-ne0 c =
     let b = (lent c.args.load.now c.args.store.now c.args.findings.now c.args.work.now) in
-    outcome_answered b (lent b.load c.answer_load-answer.last.1.1.1.1.0 c.answer_load-answer.last.1.1.1.1.1.0
+    outcome_answered b (lent b.load c.answer_load-answer.new.store c.answer_load-answer.new.findings
     c.clear.new.work) _ c.answer_load-answer.ensures
-    c.if-answer-ne0.false (zeros_again c.answer_load-answer.last.1.1.1.1.1.1.0 b.work c.clear.ensures
+    c.if-answer-ne0.false (zeros_again c.answer_load-answer.new.work b.work c.clear.ensures
     c.answer_load-answer.auto.work)

@@ -8,7 +8,7 @@ use Rattle.driver_refusals.specs.RunRefusals.{first_refusal, run_refusals}
 use Rattle.dictionary_run_terms.specs.Calls.{RunTermsResult, run_terms_left}
 use Rattle.driver_run.specs.declared.values.RunNext.{RunNext}
 use Rattle.driver_refusals.specs.Lent.{Lent, lent}
-use Rattle.driver_load.specs.Closed.{RunAnswer}
+use Rattle.driver_load.specs.Closed.{AnswerOfRun}
 use Rattle.driver_run.specs.Run.{unchanged}
 use Rattle.driver_run.specs.Values.{run_leaves}
 use Rattle.driver_run.proofs.Running.{run_broken, run_refused, run_refused_7, held_then, run_done, termed, loaded, buffer}
@@ -169,7 +169,7 @@ returns-4 c =
     let e = at-if2 p in
     let z = at-start (at-if1 e) in
     let H = held_then (dict₀ z) (lent₀ z) (sound (at-if1 e)) (passed e) (put_gave p) p.put-run-terms.ensures u.if3.false in
-    ap (λ (a : RunAnswer). record { answer = a; contents = (put_gave p).contents }) l.run-load.ensures
+    ap (λ (a : AnswerOfRun). record { answer = a; contents = (put_gave p).contents }) l.run-load.ensures
     ∙ run_done (dict₀ z) (lent₀ z) (sound (at-if1 e)) (passed e) (put_gave p) p.put-run-terms.ensures H
 
 pub run_spec : {M : Type 1} → statement M

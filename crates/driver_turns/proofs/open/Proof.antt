@@ -5,7 +5,7 @@ use Rattle.dictionary_layout.specs.Values.{contents}
 use Rattle.dictionary_run_terms.specs.Calls.{RunTermsResult, run_terms_left}
 use Rattle.driver_refusals.specs.Lent.{Lent, lent}
 use Rattle.driver_run.proofs.Running.{same_contents}
-use Rattle.driver_step.specs.Step.{TurnAnswer, kept}
+use Rattle.driver_step.specs.Step.{AnswerOfTurn, kept}
 use Rattle.driver_turns.specs.declared.values.TurnNext.{TurnNext}
 use Rattle.driver_turns.specs.Turns.{open_past}
 use Rattle.driver_turns.specs.Values.{turn_leaves}
@@ -99,7 +99,7 @@ returns-2 c =
     let e = l.before.before.before.before.before.before in
     let a = after-admit e in
     let z = start_of a in
-    ap (λ (y : TurnAnswer). record { answer = y; contents = (gave a).contents }) l.open-load.ensures
+    ap (λ (y : AnswerOfTurn). record { answer = y; contents = (gave a).contents }) l.open-load.ensures
     ∙ open_done (dict₀ z) (lent₀ z) (gave a) (admitted e)
 
 pub open_spec : {M : Type 1} → statement M

@@ -5,7 +5,7 @@ use Rattle.dictionary_layout.specs.Values.{contents}
 use Rattle.dictionary_run_terms.specs.Calls.{RunTermsResult, run_terms_left}
 use Rattle.driver_refusals.specs.Lent.{Lent, lent}
 use Rattle.driver_run.proofs.Running.{same_contents}
-use Rattle.driver_step.specs.Step.{TurnAnswer, kept, passed_answer}
+use Rattle.driver_step.specs.Step.{AnswerOfTurn, kept, passed_answer}
 use Rattle.driver_turns.specs.declared.values.TurnNext.{TurnNext}
 use Rattle.driver_turns.specs.Turns.{pass_past}
 use Rattle.driver_turns.specs.Values.{turn_leaves}
@@ -49,7 +49,7 @@ admitted e =
 -- the number that the pass has is the one that its definition gives
 number_of : (l : tie.After-pass-load) → (passed_answer (lent₀ (start_of (after-admit (at-if1 l))))
     (decode (gave (after-admit (at-if1 l))).contents)).run.number ≡ l.pass-load.result.run.number
-number_of l = sym (ap (λ (y : TurnAnswer). y.run.number) l.pass-load.ensures)
+number_of l = sym (ap (λ (y : AnswerOfTurn). y.run.number) l.pass-load.ensures)
 
 admit-requires : tie.Need-admit-requires
 admit-requires c κs = search rules
@@ -125,7 +125,7 @@ returns-2 c =
     let a = after-admit e in
     let z = start_of a in
     let left = contents k.retract.new.0 k.retract.new.1.0 k.retract.result in
-    ap (λ (y : TurnAnswer). record { answer = y; contents = left }) l.pass-load.ensures
+    ap (λ (y : AnswerOfTurn). record { answer = y; contents = left }) l.pass-load.ensures
     ∙ pass_refused (dict₀ z) (lent₀ z) (gave a) (admitted e) (number_of l ∙ k.before.before.before.if2.true) k.retract.ensures
 
 same-length-11 : tie.Need-same-length-11
@@ -149,7 +149,7 @@ returns-3 c =
     let e = at-if1 l in
     let a = after-admit e in
     let z = start_of a in
-    ap (λ (y : TurnAnswer). record { answer = y; contents = (gave a).contents }) l.pass-load.ensures
+    ap (λ (y : AnswerOfTurn). record { answer = y; contents = (gave a).contents }) l.pass-load.ensures
     ∙ pass_made (dict₀ z) (lent₀ z) (gave a) (admitted e) (λ n. c.if2.false (sym (number_of l) ∙ n))
 
 pub pass_spec : {M : Type 1} → statement M

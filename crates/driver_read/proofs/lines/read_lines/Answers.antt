@@ -1,0 +1,134 @@
+-- `lines::read_lines` meets its contract. Assumes nothing.
+use mathlib.Core.Path.{refl, ◌∙◌, ap, subst}
+use mathlib.Core.List.{◌∷◌}
+use Prim.Native.Nat.{◌+◌, ◌-◌}
+use native.Mathlib.Omega.{arith}
+use lib.ListN.{length, take, drop}
+use borrow.Author.Rules.{rules}
+use Rattle.dictionary_layout.specs.Layout.{Dict}
+use Rattle.dictionary_layout.specs.Values.{contents}
+use Rattle.ntriples.specs.Reading.{lines}
+use Rattle.driver_read.specs.Lines.{lines_come}
+use Rattle.driver_read.proofs.Ends.{left, left_all, left_none, left_next}
+use Rattle.driver_read.proofs.Outcomes.{Reading, reading_start, reading_end, reading_refused, reading_more, Going}
+use Rattle.driver_read.proofs.lines.read_lines.Goals as goal
+
+pub loop-at-init : goal.loop-at-init
+loop-at-init c =
+    let d = contents c.args.table.now c.args.arena.now c.args.first.counters in
+    record {
+      reading = reading_start c.requires.0 c.requires.2
+          (ap (lines_come d c.args.load.now c.args.first.count) (left_all c.args.file.now));
+      hash_long = refl;
+      load_long = refl;
+      chars_long = refl;
+      out_long = refl;
+    }
+
+pub line_end-end-requires : goal.line_end-end-requires
+line_end-end-requires c =
+    c.loop-at-test.true
+
+pub slice_bounds-read_line-count : goal.slice_bounds-read_line-count
+slice_bounds-read_line-count c = search rules
+
+pub slice_bounds-read_line-start : goal.slice_bounds-read_line-start
+slice_bounds-read_line-start c = search rules
+
+pub slice_bounds-read_line-end : goal.slice_bounds-read_line-end
+slice_bounds-read_line-end c = search rules
+
+pub read_line-next-requires : goal.read_line-next-requires
+read_line-next-requires c =
+    let g = c.loop-at.invariant in (
+      g.reading.between,
+      record {
+        characters = omega (arith, c.requires.1.characters, g.chars_long);
+        written = omega (arith, c.requires.1.written, g.out_long);
+      },
+    )
+
+pub shape_of-table-then-next-ne0 : goal.shape_of-table-then-next-ne0
+shape_of-table-then-next-ne0 c =
+    c.read_line-next.auto.table ∙ c.loop-at.invariant.reading.kept.table
+
+pub shape_of-arena-then-next-ne0 : goal.shape_of-arena-then-next-ne0
+shape_of-arena-then-next-ne0 c =
+    c.read_line-next.auto.arena ∙ c.loop-at.invariant.reading.kept.arena
+
+pub shape_of-hash-then-next-ne0 : goal.shape_of-hash-then-next-ne0
+shape_of-hash-then-next-ne0 c =
+    c.read_line-next.auto.hash ∙ c.loop-at.invariant.hash_long
+
+pub shape_of-load-then-next-ne0 : goal.shape_of-load-then-next-ne0
+shape_of-load-then-next-ne0 c =
+    c.read_line-next.auto.load ∙ c.loop-at.invariant.load_long
+
+pub shape_of-chars-then-next-ne0 : goal.shape_of-chars-then-next-ne0
+shape_of-chars-then-next-ne0 c =
+    c.read_line-next.auto.chars ∙ c.loop-at.invariant.chars_long
+
+pub shape_of-out-then-next-ne0 : goal.shape_of-out-then-next-ne0
+shape_of-out-then-next-ne0 c =
+    c.read_line-next.auto.out ∙ c.loop-at.invariant.out_long
+
+pub returns-then-next-ne0 : goal.returns-then-next-ne0
+returns-then-next-ne0 c =
+    reading_refused (let l = c.loop-at in
+    let file = c.args.file.now in
+    let e = c.line_end-end.result in
+    subst (Reading (lines_come (contents c.args.table.now c.args.arena.now c.args.first.counters) c.args.load.now c.args.first.count (lines file)) (contents c.args.table.now c.args.arena.now c.args.first.counters) l.table l.arena
+    l.hash l.load l.next)
+    (left_next file l.at e c.loop-at-test.true c.line_end-end.ensures) l.invariant.reading) c.read_line-next.ensures c.if-next-ne0.true
+
+pub overflow_add-at : goal.overflow_add-at
+overflow_add-at c =
+    omega (arith, c.line_end-end.ensures.clear.upto, c.good.1.1.1.1.1.0.1)
+
+pub loop-at-smaller : goal.loop-at-smaller
+loop-at-smaller c = search rules
+
+pub loop-at-preserved : goal.loop-at-preserved
+loop-at-preserved c =
+    let g = c.loop-at.invariant in
+    record {
+      reading = reading_more (let l = c.loop-at in
+          let file = c.args.file.now in
+          let e = c.line_end-end.result in
+          subst (Reading (lines_come (contents c.args.table.now c.args.arena.now c.args.first.counters) c.args.load.now c.args.first.count (lines file)) (contents c.args.table.now c.args.arena.now c.args.first.counters) l.table l.arena
+          l.hash l.load l.next)
+          (left_next file l.at e c.loop-at-test.true c.line_end-end.ensures) l.invariant.reading) c.read_line-next.ensures c.if-next-ne0.false c.read_line-next.auto.load;
+      hash_long = c.read_line-next.auto.hash ∙ g.hash_long;
+      load_long = c.read_line-next.auto.load ∙ g.load_long;
+      chars_long = c.read_line-next.auto.chars ∙ g.chars_long;
+      out_long = c.read_line-next.auto.out ∙ g.out_long;
+    }
+
+pub shape_of-table : goal.shape_of-table
+shape_of-table c =
+    c.loop-at.invariant.reading.kept.table
+
+pub shape_of-arena : goal.shape_of-arena
+shape_of-arena c =
+    c.loop-at.invariant.reading.kept.arena
+
+pub shape_of-hash : goal.shape_of-hash
+shape_of-hash c =
+    c.loop-at.invariant.hash_long
+
+pub shape_of-load : goal.shape_of-load
+shape_of-load c =
+    c.loop-at.invariant.load_long
+
+pub shape_of-chars : goal.shape_of-chars
+shape_of-chars c =
+    c.loop-at.invariant.chars_long
+
+pub shape_of-out : goal.shape_of-out
+shape_of-out c =
+    c.loop-at.invariant.out_long
+
+pub returns : goal.returns
+returns c =
+    reading_end (subst (Reading _ _ _ _ _ _ _) (left_none c.args.file.now c.loop-at.at (λ h. omega (arith, c.loop-at-test.false)))
+    c.loop-at.invariant.reading)
