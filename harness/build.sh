@@ -2,7 +2,7 @@
 # Builds the harness with plain rustc, no crates from a registry: build.sh PROGRAM...
 #
 #   PORT    the static library with the port's entry points, or "model" for the model in its place. Unset: the library that
-#           `rt staticlib edge_c` makes, and where the repository has no crate edge_c yet, the model.
+#           `harness/archive edge_c` makes, and where the repository has no crate edge_c_c yet, the model.
 #
 # A program NAME is programs/NAME.rs or programs/NAME/main.rs, or tablestork-test, the safe crate's own tests. It goes to
 # target/bin-port/NAME or target/bin-model/NAME, and its path is printed.
@@ -11,12 +11,11 @@ here=$(cd "$(dirname "$0")" && pwd)
 target=$here/target
 L=$target/lib
 if [ -z "${PORT:-}" ]; then
-    if [ -d "$here/../crates/edge_c" ]; then
-        (cd "$here/.." && rt staticlib edge_c >&2)
-        PORT=$here/../target/staticlib/libedge_c.a
+    if [ -d "$here/../crates/edge_c_c" ]; then
+        PORT=$("$here/archive" edge_c)
     else
         PORT=model
-        echo "harness: no crate edge_c yet: the model stands in for the port" >&2
+        echo "harness: no crate edge_c_c yet: the model stands in for the port" >&2
     fi
 fi
 "$here/original/build.sh"

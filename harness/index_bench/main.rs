@@ -1,7 +1,7 @@
 // Measures is_valid of crate index beside one pass that adds up all numbers of the same table and all bytes of the same arena, in one
 // run. Both take turns, a time is the best of them, and times are the thread's own, so that other work on the machine counts little.
 // The dictionary is as full as it can be: 65,535 entries and 1,048,576 bytes. From the repository's root:
-//     rt staticlib trial_index_bench
+//     harness/archive trial_index_bench
 //     rustc --edition 2021 -O -o target/index_bench -L target/staticlib -l static=trial_index_bench harness/index_bench/main.rs && target/index_bench
 use std::hint::black_box;
 

@@ -2,7 +2,7 @@
 // repeats beside HashSet. Rows of a store, s p o pass rule, are told apart and put in order by s, p and o. Both take turns, a time is the
 // best of them, and what both leave is compared. Times are the thread's own, so that other work on the machine counts little. From the
 // repository's root:
-//     rt staticlib trial_rows_bench
+//     harness/archive trial_rows_bench
 //     rustc --edition 2021 -O -o target/rows_bench -L target/staticlib -l static=trial_rows_bench harness/rows_bench/main.rs && target/rows_bench
 use std::collections::HashSet;
 

@@ -207,8 +207,8 @@ module _ {o : Outcome} {d : Dict} {table arena hash load : List ℕ} {next : Rea
     }
 
 -- in a file, from a place on; the buffers have their lengths
-pub record Going (o : Outcome) (d : Dict) (file hash₀ load₀ chars₀ out₀ table arena hash load chars out : List ℕ) (next : ReadNext) (at : ℕ)
-    : Type 0 where
+pub record Going (o : Outcome) (d : Dict) (file hash₀ load₀ chars₀ out₀ table arena hash load chars out : List ℕ)
+    (next : ReadNext) (at : ℕ) : Type 0 where
   pub reading : Reading o d table arena hash load next (left file at)
   pub hash_long : length hash ≡ length hash₀
   pub load_long : length load ≡ length load₀

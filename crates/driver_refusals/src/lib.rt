@@ -41,7 +41,7 @@ pub fn all_known(load: &[u32], terms: u32) -> bool
 // The number of the refusal, or 0.
 pub fn run_refusal(load: &[u32], store: &[u32], findings: &[u32], work: &[u32], terms: u32) -> u32
     ensures { result ≡ first_refusal (run_refusals terms
-        (record { load = load.entry.now; store = store.now; findings = findings.now; work = work.now })) }
+        (record { load = load.now; store = store.now; findings = findings.now; work = work.now })) }
 {
     if load.len() % LOAD_WIDTH != 0 {
         return 2;

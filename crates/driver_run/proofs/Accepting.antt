@@ -48,7 +48,8 @@ run_accepted tl al ts b e = passed (first_refusal (run_refusals (length ts) b)) 
     result : List Term → Outcome Row
     result us = closed b us
 
-    judged : (us : List Term) → first_refusal (run_refusals (length ts) b) ≡ 0 → put_all tl al ts run_terms ≡ all_put us → (o : Outcome Row)
+    judged : (us : List Term) → first_refusal (run_refusals (length ts) b) ≡ 0 → put_all tl al ts run_terms ≡ all_put us →
+        (o : Outcome Row)
         → result us ≡ o → (outcome_answer b o).number ≡ 0 → AcceptedRun tl al ts b (record { answer = outcome_answer b o; held = us })
     judged us q f store_full g e = absurd (omega arith)
     judged us q f findings_full g e = absurd (omega arith)

@@ -35,9 +35,9 @@ pub fn run(
     work: &mut [u32],
 ) -> RunNext
     ensures { run_leaves result table.new arena.new
-        (record { load = load.entry.now; store = store.new; findings = findings.new; work = work.new })
+        (record { load = load.now; store = store.new; findings = findings.new; work = work.new })
         ≡ run_gives (contents table.old arena.old counters)
-        (record { load = load.entry.now; store = store.old; findings = findings.old; work = work.old }) }
+        (record { load = load.now; store = store.old; findings = findings.old; work = work.old }) }
 {
     if !is_valid(&*table, &*arena, counters) {
         return refused_run(1, counters);

@@ -75,7 +75,8 @@ Well [] = Unit {0}
 Well (t ∷ r) = T (kind_known t) × T (short t) × Well r
 
 -- where there is room for all of them, all are put
-pub put_all_room : (tl al : ℕ) (ts r : List Term) → Well r → heads_width + entry_width * (length ts + length r) ≤ tl → size ts + size r ≤ al
+pub put_all_room : (tl al : ℕ) (ts r : List Term) → Well r → heads_width + entry_width * (length ts + length r) ≤ tl → size ts + size r ≤
+    al
     → (us : List Term) × (put_all tl al ts r ≡ all_put us)
 unfolding put_all
 put_all_room tl al ts [] w e b = (ts, refl)

@@ -1,8 +1,7 @@
 use Prim.Native.Nat.{◌-◌, ◌≤◌}
-use native.Mathlib.Omega.{arith}
 use lib.ListN.{length, get_or}
 use Rattle.common.specs.Rows.{cleared}
-use Rattle.common.proofs.Filling.{Filled, fill_more, clear_start, clear_zero, clear_end}
+use Rattle.common.proofs.Filling.{Filled}
 use Rattle.common.proofs.clear_from.Given as goal
 
 abbrev pub invariant-loop-i : goal.invariant-loop-i

@@ -46,7 +46,8 @@ returns-then-answer-ne0 c =
     let store = c.answer_load-answer.new.store in
     let findings = c.answer_load-answer.new.findings in
     let work = c.answer_load-answer.new.work in
-    outcome_refused b (lent b.load c.clear_from.new.buf c.clear_from-then-answer-ne0.new.buf c.clear.new.work) _ c.answer_load-answer.ensures
+    outcome_refused b (lent b.load c.clear_from.new.buf c.clear_from-then-answer-ne0.new.buf c.clear.new.work) _
+    c.answer_load-answer.ensures
     (λ e. omega (arith, e, c.if-answer-ne0.true))
     (zeros_again store b.store (clear_all store c.clear_from.ensures) c.answer_load-answer.auto.store)
     (zeros_again findings b.findings (clear_all findings c.clear_from-then-answer-ne0.ensures) c.answer_load-answer.auto.findings)

@@ -29,28 +29,39 @@ past₂ : (c : (lts.Else2 tie.the-claims reads.Pre reads.Post)) → Past 2 (refu
 past₂ c = past_more 1 (refusals c.before.before.before.before.before.before) (past₁ c.before) (le-ltb _ _ c.if-load.false)
 
 past₃ : (c : (lts.Else3 tie.the-claims reads.Pre reads.Post)) → Past 3 (refusals c.before.before.before.before.before.before.before)
-past₃ c = past_more 2 (refusals c.before.before.before.before.before.before.before) (past₂ c.before) (ap not (eq-eqb _ 0 c.if-store-ne0.false))
+past₃ c = past_more 2 (refusals c.before.before.before.before.before.before.before) (past₂ c.before)
+    (ap not (eq-eqb _ 0 c.if-store-ne0.false))
 
 past₄ : (c : (lts.Else4 tie.the-claims reads.Pre reads.Post)) → Past 4 (refusals c.before.before.before.before.before.before.before.before)
 past₄ c = past_more 3 (refusals c.before.before.before.before.before.before.before.before) (past₃ c.before) (le-ltb _ _ c.if-store.false)
 
-past₅ : (c : (lts.Else5 tie.the-claims reads.Pre reads.Post)) → Past 5 (refusals c.before.before.before.before.before.before.before.before.before)
-past₅ c = past_more 4 (refusals c.before.before.before.before.before.before.before.before.before) (past₄ c.before) (ap not (eq-eqb _ 0 c.if-findings-ne0.false))
+past₅ : (c : (lts.Else5 tie.the-claims reads.Pre reads.Post)) → Past 5
+    (refusals c.before.before.before.before.before.before.before.before.before)
+past₅ c = past_more 4 (refusals c.before.before.before.before.before.before.before.before.before) (past₄ c.before)
+    (ap not (eq-eqb _ 0 c.if-findings-ne0.false))
 
-past₆ : (c : (lts.Else6 tie.the-claims reads.Pre reads.Post)) → Past 6 (refusals c.before.before.before.before.before.before.before.before.before.before)
-past₆ c = past_more 5 (refusals c.before.before.before.before.before.before.before.before.before.before) (past₅ c.before) (le-ltb _ _ c.if-findings.false)
+past₆ : (c : (lts.Else6 tie.the-claims reads.Pre reads.Post)) → Past 6
+    (refusals c.before.before.before.before.before.before.before.before.before.before)
+past₆ c = past_more 5 (refusals c.before.before.before.before.before.before.before.before.before.before) (past₅ c.before)
+    (le-ltb _ _ c.if-findings.false)
 
-past₇ : (c : (lts.Else7 tie.the-claims reads.Pre reads.Post)) → Past 7 (refusals c.before.before.before.before.before.before.before.before.before.before.before)
-past₇ c = past_more 6 (refusals c.before.before.before.before.before.before.before.before.before.before.before) (past₆ c.before) (le-ltb _ _ c.if-work-terms.false)
+past₇ : (c : (lts.Else7 tie.the-claims reads.Pre reads.Post)) → Past 7
+    (refusals c.before.before.before.before.before.before.before.before.before.before.before)
+past₇ c = past_more 6 (refusals c.before.before.before.before.before.before.before.before.before.before.before) (past₆ c.before)
+    (le-ltb _ _ c.if-work-terms.false)
 
-past₈ : (c : (lts.Else8 tie.the-claims reads.Pre reads.Post)) → Past 8 (refusals c.before.before.before.before.before.before.before.before.before.before.before.before.before)
+past₈ : (c : (lts.Else8 tie.the-claims reads.Pre reads.Post)) → Past 8
+    (refusals c.before.before.before.before.before.before.before.before.before.before.before.before.before)
 past₈ c =
-    past_more 7 (refusals c.before.before.before.before.before.before.before.before.before.before.before.before.before) (past₇ c.before.before)
+    past_more 7 (refusals c.before.before.before.before.before.before.before.before.before.before.before.before.before)
+    (past₇ c.before.before)
     (ap not (sym c.no_blank.ensures ∙ c.if-not-no_blank.false))
 
-past₉ : (c : (lts.Else9 tie.the-claims reads.Pre reads.Post)) → Past 9 (refusals c.before.before.before.before.before.before.before.before.before.before.before.before.before.before.before)
+past₉ : (c : (lts.Else9 tie.the-claims reads.Pre reads.Post)) → Past 9
+    (refusals c.before.before.before.before.before.before.before.before.before.before.before.before.before.before.before)
 past₉ c =
-    past_more 8 (refusals c.before.before.before.before.before.before.before.before.before.before.before.before.before.before.before) (past₈ c.before.before)
+    past_more 8 (refusals c.before.before.before.before.before.before.before.before.before.before.before.before.before.before.before)
+    (past₈ c.before.before)
     (ap not (sym c.all_known.ensures ∙ c.if-not-all_known.false))
 
 pub returns-then-load-ne0 : goal.returns-then-load-ne0
@@ -67,7 +78,8 @@ returns-then-load c =
 
 pub returns-then-store-ne0 : goal.returns-then-store-ne0
 returns-then-store-ne0 c =
-    first_met 2 (refusals c.before.before.before.before.before.before.before.before) (past₂ c.before.before) (ap not (ne_eqb _ 0 c.if-store-ne0.true))
+    first_met 2 (refusals c.before.before.before.before.before.before.before.before) (past₂ c.before.before)
+    (ap not (ne_eqb _ 0 c.if-store-ne0.true))
 
 pub overflow_mul-t-6-2 : goal.overflow_mul-t-6-2
 overflow_mul-t-6-2 c = search rules
@@ -79,7 +91,8 @@ returns-then-store c =
 
 pub returns-then-findings-ne0 : goal.returns-then-findings-ne0
 returns-then-findings-ne0 c =
-    first_met 4 (refusals c.before.before.before.before.before.before.before.before.before.before) (past₄ c.before.before) (ap not (ne_eqb _ 0 c.if-findings-ne0.true))
+    first_met 4 (refusals c.before.before.before.before.before.before.before.before.before.before) (past₄ c.before.before)
+    (ap not (ne_eqb _ 0 c.if-findings-ne0.true))
 
 pub overflow_mul-t-6-3 : goal.overflow_mul-t-6-3
 overflow_mul-t-6-3 c = search rules
@@ -105,14 +118,18 @@ no_blank-requires c = search rules
 
 pub returns-then-not-no_blank : goal.returns-then-not-no_blank
 returns-then-not-no_blank c =
-    first_met 7 (refusals c.before.before.before.before.before.before.before.before.before.before.before.before.before.before) (past₇ c.before.before.before) (ap not (sym c.no_blank.ensures ∙ c.if-not-no_blank.true))
+    first_met 7 (refusals c.before.before.before.before.before.before.before.before.before.before.before.before.before.before)
+    (past₇ c.before.before.before) (ap not (sym c.no_blank.ensures ∙ c.if-not-no_blank.true))
 
 pub all_known-requires : goal.all_known-requires
 all_known-requires c = search rules
 
 pub returns-then-not-all_known : goal.returns-then-not-all_known
 returns-then-not-all_known c =
-    first_met 8 (refusals c.before.before.before.before.before.before.before.before.before.before.before.before.before.before.before.before) (past₈ c.before.before.before) (ap not (sym c.all_known.ensures ∙ c.if-not-all_known.true))
+    first_met 8 (refusals
+    c.before.before.before.before.before.before.before.before.before.before.before.before.before.before.before.before)
+    (past₈ c.before.before.before) (ap not (sym c.all_known.ensures ∙ c.if-not-all_known.true))
 
 pub returns : goal.returns
-returns c = none_met (refusals c.before.before.before.before.before.before.before.before.before.before.before.before.before.before.before.before) (past₉ c.before)
+returns c = none_met (refusals
+    c.before.before.before.before.before.before.before.before.before.before.before.before.before.before.before.before) (past₉ c.before)

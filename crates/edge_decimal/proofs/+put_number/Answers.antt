@@ -1,6 +1,6 @@
 -- `edge_decimal::put_number` meets its contract. Assumes nothing.
 use native.Mathlib.Omega.{arith}
-use Rattle.edge_decimal.proofs.Writing.{length_one, length_more, wrote_length, wrote_one, last_fits, wrote_more}
+use Rattle.edge_decimal.proofs.Writing.{length_one, length_more, wrote_one, last_fits, wrote_more}
 use Rattle.edge_decimal.proofs.+put_number.Goals as goal
 
 pub bounds-out-at : goal.bounds-out-at

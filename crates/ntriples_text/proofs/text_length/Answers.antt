@@ -1,13 +1,9 @@
 -- `ntriples_text::text_length` meets its contract. Assumes nothing.
-use mathlib.Core.Path.{◌≡◌, sym, ◌∙◌}
-use mathlib.Core.Option.{some}
-use mathlib.Core.List.{List}
-use Prim.Native.Nat.{ℕ, ◌≤◌}
+use mathlib.Core.Path.{sym, ◌∙◌}
 use native.Mathlib.Omega.{arith}
-use lib.ListN.{length, take}
+use lib.ListN.{take}
 use lib.Seq.{length-take-le}
 use Rattle.dictionary_layout.specs.Terms.{term}
-use Rattle.ntriples.specs.Utf8.{decode}
 use Rattle.ntriples_lines.proofs.Lines.{case_decoded, case_few}
 use Rattle.ntriples_canonical.proofs.Bytes.{not_utf8, other_kind}
 use Rattle.ntriples_text.proofs.Stores.{angles_length}
@@ -47,7 +43,9 @@ returns-then-iri c =
     let kind = c.args.kind in
     let bytes = c.args.bytes.now in
     let good = sym c.if-iri.true ∙ c.iri.ensures in
-    measured (term kind bytes) (named_is kind bytes (take (c.in-Chars.n) (c.decode.new.chars)) c.if-kind-eq1.true (case_decoded c.in-Chars.is c.decode.ensures) good)
+    let chars = take c.in-Chars.n c.decode.new.chars in
+    let decoded = case_decoded c.in-Chars.is c.decode.ensures in
+    measured (term kind bytes) (named_is kind bytes chars c.if-kind-eq1.true decoded good)
     (sym (angles_length bytes))
 
 pub shape_of-chars-then-kind-eq1 : goal.shape_of-chars-then-kind-eq1
@@ -57,8 +55,10 @@ pub returns-then-kind-eq1 : goal.returns-then-kind-eq1
 returns-then-kind-eq1 c =
     let kind = c.args.kind in
     let bytes = c.args.bytes.now in
+    let chars = take c.in-Chars.n c.decode.new.chars in
+    let decoded = case_decoded c.in-Chars.is c.decode.ensures in
     measured_none (term kind bytes)
-    (named_is kind bytes (take (c.in-Chars.n) (c.decode.new.chars)) c.if-kind-eq1.true (case_decoded c.in-Chars.is c.decode.ensures) (sym c.if-iri.false ∙ c.iri.ensures))
+    (named_is kind bytes chars c.if-kind-eq1.true decoded (sym c.if-iri.false ∙ c.iri.ensures))
 
 pub slice_bounds-whole_label-end : goal.slice_bounds-whole_label-end
 slice_bounds-whole_label-end c =
@@ -86,7 +86,9 @@ returns-then-whole_label c =
     let kind = c.args.kind in
     let bytes = c.args.bytes.now in
     let whole = sym c.if-whole_label.true ∙ c.whole_label.ensures in
-    measured (term kind bytes) (blank_is kind bytes (take (c.in-Chars.n) (c.decode.new.chars)) c.if-kind-eq2.true (case_decoded c.in-Chars.is c.decode.ensures) whole) (omega arith)
+    let chars = take c.in-Chars.n c.decode.new.chars in
+    let decoded = case_decoded c.in-Chars.is c.decode.ensures in
+    measured (term kind bytes) (blank_is kind bytes chars c.if-kind-eq2.true decoded whole) (omega arith)
 
 pub shape_of-chars-then-kind-eq2 : goal.shape_of-chars-then-kind-eq2
 shape_of-chars-then-kind-eq2 c = search rules
@@ -96,11 +98,17 @@ returns-then-kind-eq2 c =
     let kind = c.args.kind in
     let bytes = c.args.bytes.now in
     let whole = sym c.if-whole_label.false ∙ c.whole_label.ensures in
-    measured_none (term kind bytes) (blank_is kind bytes (take (c.in-Chars.n) (c.decode.new.chars)) c.if-kind-eq2.true (case_decoded c.in-Chars.is c.decode.ensures) whole)
+    let chars = take c.in-Chars.n c.decode.new.chars in
+    let decoded = case_decoded c.in-Chars.is c.decode.ensures in
+    measured_none (term kind bytes) (blank_is kind bytes chars c.if-kind-eq2.true decoded whole)
 
 pub literal_length-requires : goal.literal_length-requires
 literal_length-requires c =
-    record { chars = take (c.in-Chars.n) (c.decode.new.chars); decodes = (case_decoded c.in-Chars.is c.decode.ensures); short = c.requires.short }
+    record {
+      chars = take c.in-Chars.n c.decode.new.chars;
+      decodes = case_decoded c.in-Chars.is c.decode.ensures;
+      short = c.requires.short;
+    }
 
 pub shape_of-chars-then-kind-eq3 : goal.shape_of-chars-then-kind-eq3
 shape_of-chars-then-kind-eq3 c = search rules

@@ -1,9 +1,6 @@
 -- `dictionary_layout::bytes::clear_bytes` meets its contract. Assumes nothing.
-use Prim.Native.Nat.{◌-◌}
 use native.Mathlib.Omega.{arith}
-use lib.ListN.{length, get_or}
-use Rattle.common.specs.Rows.{cleared}
-use Rattle.common.proofs.Filling.{Filled, fill_more, clear_start, clear_zero, clear_end, clear_all}
+use Rattle.common.proofs.Filling.{fill_more, clear_start, clear_zero, clear_end, clear_all}
 use Rattle.dictionary_layout.proofs.bytes.clear_bytes.Goals as goal
 
 pub loop-i-init : goal.loop-i-init

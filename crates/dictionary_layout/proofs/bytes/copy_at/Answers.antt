@@ -1,8 +1,6 @@
 -- `dictionary_layout::bytes::copy_at` meets its contract. Assumes nothing.
-use Prim.Native.Nat.{◌-◌}
 use native.Mathlib.Omega.{arith}
-use lib.ListN.{length}
-use Rattle.dictionary_layout.proofs.Rows.{Copied, copy_start, copy_more, copy_end}
+use Rattle.dictionary_layout.proofs.Rows.{copy_start, copy_more, copy_end}
 use Rattle.dictionary_layout.proofs.bytes.copy_at.Goals as goal
 
 pub loop-i-init : goal.loop-i-init

@@ -1,7 +1,6 @@
 use Prim.Native.Nat.{◌-◌}
-use native.Mathlib.Omega.{arith}
 use lib.ListN.{length}
-use Rattle.dictionary_layout.proofs.Rows.{Copied, copy_start, copy_more, copy_end}
+use Rattle.dictionary_layout.proofs.Rows.{Copied}
 use Rattle.dictionary_layout.proofs.bytes.copy_at.Given as goal
 
 abbrev pub invariant-loop-i : goal.invariant-loop-i

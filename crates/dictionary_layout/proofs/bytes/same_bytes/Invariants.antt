@@ -1,9 +1,7 @@
 use mathlib.Core.Path.{◌≡◌}
 use Prim.Native.Nat.{◌-◌}
-use native.Mathlib.Omega.{arith}
 use lib.ListN.{length}
-use borrow.Author.Count.{below_more}
-use Rattle.dictionary_layout.proofs.Rows.{Agree, lengths_differ, place_differs, all_agree}
+use Rattle.dictionary_layout.proofs.Rows.{Agree}
 use Rattle.dictionary_layout.proofs.bytes.same_bytes.Given as goal
 
 abbrev pub invariant-loop-i : goal.invariant-loop-i

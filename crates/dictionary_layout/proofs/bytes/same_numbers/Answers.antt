@@ -1,10 +1,7 @@
 -- `dictionary_layout::bytes::same_numbers` meets its contract. Assumes nothing.
-use mathlib.Core.Path.{◌≡◌}
-use Prim.Native.Nat.{◌-◌}
 use native.Mathlib.Omega.{arith}
-use lib.ListN.{length}
 use borrow.Author.Count.{below_more}
-use Rattle.dictionary_layout.proofs.Rows.{Agree, lengths_differ, place_differs, all_agree}
+use Rattle.dictionary_layout.proofs.Rows.{lengths_differ, place_differs, all_agree}
 use Rattle.dictionary_layout.proofs.bytes.same_numbers.Goals as goal
 
 pub returns-then-a-b : goal.returns-then-a-b

@@ -1,9 +1,7 @@
 -- `dictionary_layout::bytes::zero_numbers` meets its contract. Assumes nothing.
-use Prim.Native.Nat.{◌-◌}
 use native.Mathlib.Omega.{arith}
-use lib.ListN.{length}
 use borrow.Author.Count.{below_more}
-use Rattle.dictionary_layout.proofs.Rows.{Zeros, not_zeros, zeros→same_row}
+use Rattle.dictionary_layout.proofs.Rows.{not_zeros, zeros→same_row}
 use Rattle.dictionary_layout.proofs.bytes.zero_numbers.Goals as goal
 
 pub loop-i-init : goal.loop-i-init

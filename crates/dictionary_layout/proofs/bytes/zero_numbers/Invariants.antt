@@ -1,8 +1,6 @@
 use Prim.Native.Nat.{◌-◌}
-use native.Mathlib.Omega.{arith}
 use lib.ListN.{length}
-use borrow.Author.Count.{below_more}
-use Rattle.dictionary_layout.proofs.Rows.{Zeros, not_zeros, zeros→same_row}
+use Rattle.dictionary_layout.proofs.Rows.{Zeros}
 use Rattle.dictionary_layout.proofs.bytes.zero_numbers.Given as goal
 
 abbrev pub invariant-loop-i : goal.invariant-loop-i

@@ -1,10 +1,7 @@
 -- `dictionary_layout::hash::digest` meets its contract. Assumes nothing.
-use Prim.Native.Nat.{◌-◌}
 use native.Mathlib.Omega.{arith}
 use borrow.Author.Rules.{rules}
-use lib.ListN.{length}
-use Rattle.dictionary_layout.specs.Layout.{sum}
-use Rattle.dictionary_layout.proofs.Digests.{Digesting, digest_start, digest_more, digest_end, digest_fits}
+use Rattle.dictionary_layout.proofs.Digests.{digest_start, digest_more, digest_end, digest_fits}
 use Rattle.dictionary_layout.proofs.hash.digest.Goals as goal
 
 pub loop-i-init : goal.loop-i-init

@@ -1,9 +1,6 @@
 use Prim.Native.Nat.{◌-◌}
-use native.Mathlib.Omega.{arith}
-use borrow.Author.Rules.{rules}
 use lib.ListN.{length}
-use Rattle.dictionary_layout.specs.Layout.{sum}
-use Rattle.dictionary_layout.proofs.Digests.{Digesting, digest_start, digest_more, digest_end, digest_fits}
+use Rattle.dictionary_layout.proofs.Digests.{Digesting}
 use Rattle.dictionary_layout.proofs.hash.digest.Given as goal
 
 abbrev pub invariant-loop-i : goal.invariant-loop-i

@@ -1,8 +1,5 @@
 -- `lines::line_end` meets its contract. Assumes nothing.
-use Prim.Native.Nat.{◌-◌}
-use lib.ListN.{length}
 use borrow.Author.Rules.{rules}
-use Rattle.ntriples.specs.Files.{Clear}
 use Rattle.ntriples.proofs.Lines.{clear_start, clear_more}
 use Rattle.driver_read.proofs.Ends.{feed_ends, return_ends, no_other_ends, ends_here, ends_last}
 use Rattle.driver_read.proofs.lines.line_end.Goals as goal

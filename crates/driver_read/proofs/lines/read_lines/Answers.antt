@@ -1,16 +1,11 @@
 -- `lines::read_lines` meets its contract. Assumes nothing.
 use mathlib.Core.Path.{refl, ◌∙◌, ap, subst}
-use mathlib.Core.List.{◌∷◌}
-use Prim.Native.Nat.{◌+◌, ◌-◌}
 use native.Mathlib.Omega.{arith}
-use lib.ListN.{length, take, drop}
-use borrow.Author.Rules.{rules}
-use Rattle.dictionary_layout.specs.Layout.{Dict}
 use Rattle.dictionary_layout.specs.Values.{contents}
 use Rattle.ntriples.specs.Reading.{lines}
 use Rattle.driver_read.specs.Lines.{lines_come}
-use Rattle.driver_read.proofs.Ends.{left, left_all, left_none, left_next}
-use Rattle.driver_read.proofs.Outcomes.{Reading, reading_start, reading_end, reading_refused, reading_more, Going}
+use Rattle.driver_read.proofs.Ends.{left_all, left_none, left_next}
+use Rattle.driver_read.proofs.Outcomes.{Reading, reading_start, reading_end, reading_refused, reading_more}
 use Rattle.driver_read.proofs.lines.read_lines.Goals as goal
 
 pub loop-at-init : goal.loop-at-init
@@ -28,15 +23,6 @@ loop-at-init c =
 pub line_end-end-requires : goal.line_end-end-requires
 line_end-end-requires c =
     c.loop-at-test.true
-
-pub slice_bounds-read_line-count : goal.slice_bounds-read_line-count
-slice_bounds-read_line-count c = search rules
-
-pub slice_bounds-read_line-start : goal.slice_bounds-read_line-start
-slice_bounds-read_line-start c = search rules
-
-pub slice_bounds-read_line-end : goal.slice_bounds-read_line-end
-slice_bounds-read_line-end c = search rules
 
 pub read_line-next-requires : goal.read_line-next-requires
 read_line-next-requires c =
@@ -77,16 +63,10 @@ returns-then-next-ne0 c =
     reading_refused (let l = c.loop-at in
     let file = c.args.file.now in
     let e = c.line_end-end.result in
-    subst (Reading (lines_come (contents c.args.table.now c.args.arena.now c.args.first.counters) c.args.load.now c.args.first.count (lines file)) (contents c.args.table.now c.args.arena.now c.args.first.counters) l.table l.arena
+    subst (Reading (lines_come (contents c.args.table.now c.args.arena.now c.args.first.counters) c.args.load.now c.args.first.count
+    (lines file)) (contents c.args.table.now c.args.arena.now c.args.first.counters) l.table l.arena
     l.hash l.load l.next)
     (left_next file l.at e c.loop-at-test.true c.line_end-end.ensures) l.invariant.reading) c.read_line-next.ensures c.if-next-ne0.true
-
-pub overflow_add-at : goal.overflow_add-at
-overflow_add-at c =
-    omega (arith, c.line_end-end.ensures.clear.upto, c.good.1.1.1.1.1.0.1)
-
-pub loop-at-smaller : goal.loop-at-smaller
-loop-at-smaller c = search rules
 
 pub loop-at-preserved : goal.loop-at-preserved
 loop-at-preserved c =
@@ -95,9 +75,11 @@ loop-at-preserved c =
       reading = reading_more (let l = c.loop-at in
           let file = c.args.file.now in
           let e = c.line_end-end.result in
-          subst (Reading (lines_come (contents c.args.table.now c.args.arena.now c.args.first.counters) c.args.load.now c.args.first.count (lines file)) (contents c.args.table.now c.args.arena.now c.args.first.counters) l.table l.arena
+          subst (Reading (lines_come (contents c.args.table.now c.args.arena.now c.args.first.counters) c.args.load.now
+          c.args.first.count (lines file)) (contents c.args.table.now c.args.arena.now c.args.first.counters) l.table l.arena
           l.hash l.load l.next)
-          (left_next file l.at e c.loop-at-test.true c.line_end-end.ensures) l.invariant.reading) c.read_line-next.ensures c.if-next-ne0.false c.read_line-next.auto.load;
+          (left_next file l.at e c.loop-at-test.true c.line_end-end.ensures) l.invariant.reading) c.read_line-next.ensures
+          c.if-next-ne0.false c.read_line-next.auto.load;
       hash_long = c.read_line-next.auto.hash ∙ g.hash_long;
       load_long = c.read_line-next.auto.load ∙ g.load_long;
       chars_long = c.read_line-next.auto.chars ∙ g.chars_long;

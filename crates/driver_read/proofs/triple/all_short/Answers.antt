@@ -24,4 +24,5 @@ returns-then-t-gt-TERM_LIMIT-3 c =
 
 pub returns : goal.returns
 returns c =
-    are_short c.requires (omega (arith, c.if-t-gt-TERM_LIMIT.false)) (omega (arith, c.if-t-gt-TERM_LIMIT-2.false)) (omega (arith, c.if-t-gt-TERM_LIMIT-3.false))
+    are_short c.requires (omega (arith, c.if-t-gt-TERM_LIMIT.false)) (omega (arith, c.if-t-gt-TERM_LIMIT-2.false))
+    (omega (arith, c.if-t-gt-TERM_LIMIT-3.false))

@@ -2,17 +2,19 @@
 use mathlib.Core.Path.{◌≡◌, refl, sym, ◌∙◌}
 use mathlib.Core.Logic.{◌≢◌}
 use mathlib.Core.List.{List, [], ◌∷◌}
+use mathlib.Core.Option.{some}
+use Prim.Native.Nat.{ℕ}
 use native.Mathlib.Omega.{arith}
 use lib.ListN.{length}
 use lib.Seq.{length-take-le}
-use borrow.Author.Rules.{rules}
 use Rattle.dictionary_layout.specs.Layout.{Dict, decode}
 use Rattle.dictionary_layout.specs.Terms.{Term}
-use Rattle.dictionary_layout.specs.Dictionary.{AllPut, full, all_put, put_all}
-use Rattle.dictionary_layout.specs.Values.{contents}
+use Rattle.dictionary_layout.specs.Dictionary.{AllPut, full, all_put, put_all, place_of}
+use Rattle.dictionary_layout.specs.Calls.{put_result, put_gives}
+use Rattle.dictionary_puts.specs.Indexed.{Indexed}
 use Rattle.ntriples.specs.Grammar.{Terms}
 use Rattle.ntriples.specs.Reading.{in_order}
-use Rattle.driver_read.specs.Lines.{terms_at, line_ids, Kept, PutsTerms}
+use Rattle.driver_read.specs.Lines.{terms_at, Kept}
 use Rattle.driver_read.proofs.Putting.{kept_on, put_kept, put_none, put_next, put_id, put_others}
 use Rattle.driver_read.proofs.Putting.{answered_as, not_put, are_put, put_end}
 use Rattle.driver_read.proofs.triple.put_terms.Goals as goal
@@ -22,124 +24,60 @@ abbrev puts : Dict → List Term → AllPut
 puts d ts = put_all (length d.table) (length d.arena) (decode d) ts
 
 -- the subject is put
-module _ (a : tie.After-put-indexed) where
-  abbrev z₁ : tie.Start
-  z₁ = at-start a
+module _ {d₀ d₁ : Dict} {h₀ h₁ : List ℕ} (x₀ : Indexed d₀ h₀) (x₁ : Indexed d₁ h₁) (t : Terms) {n₁ i₁ : ℕ}
+    (q₁ : put_result n₁ i₁ d₁ ≡ put_gives d₀ t.s) where
+  kept₁ : Kept d₀ d₁
+  kept₁ = put_kept x₀ x₁ t.s q₁
 
-  kept₁ : Kept (dict₀ (at-start a)) (dict₁ a)
-  kept₁ = put_kept z₁.pre.0 a.put-indexed.ensures.1 (said z₁).s a.put-indexed.ensures.0
+  none₁ : n₁ ≢ 0 → puts d₀ (in_order t) ≡ full
+  none₁ n = put_none x₀ x₁ t.s q₁ n (t.p ∷ t.o ∷ [])
 
-  none₁ : a.put-indexed.result.number ≢ 0 → puts (dict₀ (at-start a)) (in_order (said (at-start a))) ≡ full
-  none₁ n = put_none z₁.pre.0 a.put-indexed.ensures.1 (said z₁).s a.put-indexed.ensures.0 n ((said z₁).p ∷ (said z₁).o ∷ [])
+  next₁ : n₁ ≡ 0 → puts d₀ (in_order t) ≡ puts d₁ (t.p ∷ t.o ∷ [])
+  next₁ n = put_next x₀ x₁ t.s q₁ n (t.p ∷ t.o ∷ [])
 
-  next₁ : a.put-indexed.result.number ≡ 0
-      → puts (dict₀ (at-start a)) (in_order (said (at-start a))) ≡ puts (dict₁ a) ((said (at-start a)).p ∷ (said (at-start a)).o ∷ [])
-  next₁ n = put_next z₁.pre.0 a.put-indexed.ensures.1 (said z₁).s a.put-indexed.ensures.0 n ((said z₁).p ∷ (said z₁).o ∷ [])
+  -- the predicate is put
+  module _ (e₁ : n₁ ≡ 0) {d₂ : Dict} {h₂ : List ℕ} (x₂ : Indexed d₂ h₂) {n₂ i₂ : ℕ} (q₂ : put_result n₂ i₂ d₂ ≡ put_gives d₁ t.p) where
+    kept₂ : Kept d₀ d₂
+    kept₂ = kept_on kept₁ (put_kept x₁ x₂ t.p q₂)
 
--- the predicate is put
-module _ (a : tie.After-put-indexed2) (e : (first-put a).put-indexed.result.number ≡ 0) where
-  abbrev a₁ : tie.After-put-indexed
-  a₁ = first-put a
+    none₂ : n₂ ≢ 0 → puts d₀ (in_order t) ≡ full
+    none₂ n = next₁ e₁ ∙ put_none x₁ x₂ t.p q₂ n (t.o ∷ [])
 
-  abbrev z₂ : tie.Start
-  z₂ = at-start (first-put a)
+    next₂ : n₂ ≡ 0 → puts d₀ (in_order t) ≡ puts d₂ (t.o ∷ [])
+    next₂ n = next₁ e₁ ∙ put_next x₁ x₂ t.p q₂ n (t.o ∷ [])
 
-  kept₂ : Kept (dict₀ (at-start (first-put a))) (dict₂ a)
-  kept₂ =
-      kept_on (kept₁ a₁) (put_kept a₁.put-indexed.ensures.1 a.put-indexed2.ensures.1 (said z₂).p a.put-indexed2.ensures.0)
+    -- the object is put
+    module _ (e₂ : n₂ ≡ 0) {d₃ : Dict} {h₃ : List ℕ} (x₃ : Indexed d₃ h₃) {n₃ i₃ : ℕ} (q₃ : put_result n₃ i₃ d₃ ≡ put_gives d₂ t.o) where
+      kept₃ : Kept d₀ d₃
+      kept₃ = kept_on kept₂ (put_kept x₂ x₃ t.o q₃)
 
-  none₂ : a.put-indexed2.result.number ≢ 0
-      → puts (dict₀ (at-start (first-put a))) (in_order (said (at-start (first-put a)))) ≡ full
-  none₂ n =
-      next₁ a₁ e
-      ∙ put_none a₁.put-indexed.ensures.1 a.put-indexed2.ensures.1 (said z₂).p a.put-indexed2.ensures.0 n ((said z₂).o ∷ [])
+      none₃ : n₃ ≢ 0 → puts d₀ (in_order t) ≡ full
+      none₃ n = next₂ e₂ ∙ put_none x₂ x₃ t.o q₃ n []
 
-  next₂ : a.put-indexed2.result.number ≡ 0
-      → puts (dict₀ (at-start (first-put a))) (in_order (said (at-start (first-put a))))
-      ≡ puts (dict₂ a) ((said (at-start (first-put a))).o ∷ [])
-  next₂ n =
-      next₁ a₁ e
-      ∙ put_next a₁.put-indexed.ensures.1 a.put-indexed2.ensures.1 (said z₂).p a.put-indexed2.ensures.0 n ((said z₂).o ∷ [])
+      next₃ : n₃ ≡ 0 → puts d₀ (in_order t) ≡ all_put (decode d₃)
+      next₃ n = next₂ e₂ ∙ (put_next x₂ x₃ t.o q₃ n [] ∙ put_end d₃)
 
--- the object is put
-module _ (a : tie.After-put-indexed3) where
-  abbrev a₂ : tie.After-put-indexed2
-  a₂ = second-put a
+      s_named : place_of t.s (decode d₃) ≡ some i₁
+      s_named = put_others x₂ x₃ t.o q₃ t.s (put_others x₁ x₂ t.p q₂ t.s (put_id x₀ x₁ t.s q₁ e₁))
 
-  abbrev e₁ : (first-put (second-put a)).put-indexed.result.number ≡ 0
-  e₁ = first-put-zero (second-put a)
+      p_named : place_of t.p (decode d₃) ≡ some i₂
+      p_named = put_others x₂ x₃ t.o q₃ t.p (put_id x₁ x₂ t.p q₂ e₂)
 
-  abbrev z₃ : tie.Start
-  z₃ = at-start (first-put (second-put a))
-
-  kept₃ : Kept (dict₀ (at-start (first-put (second-put a)))) (dict₃ a)
-  kept₃ =
-      kept_on (kept₂ a₂ e₁)
-      (put_kept a₂.put-indexed2.ensures.1 a.put-indexed3.ensures.1 (said z₃).o a.put-indexed3.ensures.0)
-
-  none₃ : a.put-indexed3.result.number ≢ 0 → puts (dict₀ z₃) (in_order (said z₃)) ≡ full
-  none₃ n =
-      next₂ a₂ e₁ (second-put-zero a)
-      ∙ put_none a₂.put-indexed2.ensures.1 a.put-indexed3.ensures.1 (said z₃).o a.put-indexed3.ensures.0 n []
-
-  next₃ : a.put-indexed3.result.number ≡ 0 → puts (dict₀ z₃) (in_order (said z₃)) ≡ all_put (decode (dict₃ a))
-  next₃ n =
-      next₂ a₂ e₁ (second-put-zero a)
-      ∙ (put_next a₂.put-indexed2.ensures.1 a.put-indexed3.ensures.1 (said z₃).o a.put-indexed3.ensures.0 n []
-      ∙ put_end (dict₃ a))
-
-  all-put-are : a.put-indexed3.result.number ≡ 0 → PutsTerms (dict₀ z₃) (said z₃) a.put-indexed3.last.0
-      a.put-indexed3.last.1.0 a.put-indexed3.last.1.1.1.0 (line_ids 0 (first-put a₂).put-indexed.result.id.0
-      a₂.put-indexed2.result.id.0 a.put-indexed3.result.id.0 a.put-indexed3.result.counters)
-  all-put-are n =
-      let x = (first-put a₂).put-indexed.ensures in
-      let y = a₂.put-indexed2.ensures in
-      let w = a.put-indexed3.ensures in
-      are_put w.1 kept₃ refl (next₃ n)
-      (put_others y.1 w.1 (said z₃).o w.0 (said z₃).s (put_others x.1 y.1 (said z₃).p y.0 (said z₃).s
-      (put_id z₃.pre.0 x.1 (said z₃).s x.0 e₁)))
-      (put_others y.1 w.1 (said z₃).o w.0 (said z₃).p (put_id x.1 y.1 (said z₃).p y.0 (second-put-zero a)))
-      (put_id y.1 w.1 (said z₃).o w.0 n)
+      o_named : n₃ ≡ 0 → place_of t.o (decode d₃) ≡ some i₃
+      o_named n = put_id x₂ x₃ t.o q₃ n
 
 pub slice_bounds-put_indexed-end : goal.slice_bounds-put_indexed-end
 slice_bounds-put_indexed-end c =
     let o = c.requires.1 in
     sym (length-take-le c.args.t.se c.args.out.now (omega (arith, o.s_p, o.p_o, o.within)))
 
-pub put_indexed-s-requires : goal.put_indexed-s-requires
-put_indexed-s-requires c = search rules
-
-pub no_room-requires : goal.no_room-requires
-no_room-requires c = search rules
-
-pub shape_of-table-then-s-ne0 : goal.shape_of-table-then-s-ne0
-shape_of-table-then-s-ne0 c = search rules
-
-pub shape_of-arena-then-s-ne0 : goal.shape_of-arena-then-s-ne0
-shape_of-arena-then-s-ne0 c = search rules
-
-pub shape_of-hash-then-s-ne0 : goal.shape_of-hash-then-s-ne0
-shape_of-hash-then-s-ne0 c = search rules
-
 pub returns-then-s-ne0 : goal.returns-then-s-ne0
 returns-then-s-ne0 c =
     answered_as c.no_room.ensures
-    (not_put c.put_indexed-s.ensures.1 (kept₁ c) refl (none₁ c c.if-s-ne0.true))
-
-pub slice_bounds-put_indexed-count : goal.slice_bounds-put_indexed-count
-slice_bounds-put_indexed-count c = search rules
-
-pub slice_bounds-put_indexed-start : goal.slice_bounds-put_indexed-start
-slice_bounds-put_indexed-start c = search rules
-
-pub slice_bounds-put_indexed-end-2 : goal.slice_bounds-put_indexed-end-2
-slice_bounds-put_indexed-end-2 c = search rules
-
-pub put_indexed-p-requires : goal.put_indexed-p-requires
-put_indexed-p-requires c = search rules
-
-pub no_room-requires-then-p-ne0 : goal.no_room-requires-then-p-ne0
-no_room-requires-then-p-ne0 c = search rules
+    (not_put c.put_indexed-s.ensures.indexed
+    (kept₁ c.requires.0 c.put_indexed-s.ensures.indexed (terms_at c.args.t c.args.out.now) c.put_indexed-s.ensures.arena_after) refl
+    (none₁ c.requires.0 c.put_indexed-s.ensures.indexed (terms_at c.args.t c.args.out.now) c.put_indexed-s.ensures.arena_after
+    c.if-s-ne0.true))
 
 pub shape_of-table-then-p-ne0 : goal.shape_of-table-then-p-ne0
 shape_of-table-then-p-ne0 c =
@@ -155,9 +93,12 @@ shape_of-hash-then-p-ne0 c =
 
 pub returns-then-p-ne0 : goal.returns-then-p-ne0
 returns-then-p-ne0 c =
-    let e = c.if-s-ne0.false in
     answered_as c.no_room-then-p-ne0.ensures
-    (not_put c.put_indexed-p.ensures.1 (kept₂ c e) refl (none₂ c e c.if-p-ne0.true))
+    (not_put c.put_indexed-p.ensures.indexed
+    (kept₂ c.requires.0 c.put_indexed-s.ensures.indexed (terms_at c.args.t c.args.out.now) c.put_indexed-s.ensures.arena_after
+    c.if-s-ne0.false c.put_indexed-p.ensures.indexed c.put_indexed-p.ensures.arena_after) refl
+    (none₂ c.requires.0 c.put_indexed-s.ensures.indexed (terms_at c.args.t c.args.out.now) c.put_indexed-s.ensures.arena_after
+    c.if-s-ne0.false c.put_indexed-p.ensures.indexed c.put_indexed-p.ensures.arena_after c.if-p-ne0.true))
 
 pub slice_bounds-put_indexed-count-2 : goal.slice_bounds-put_indexed-count-2
 slice_bounds-put_indexed-count-2 c =
@@ -174,12 +115,6 @@ slice_bounds-put_indexed-end-3 c =
     let o = c.requires.1 in
     omega (arith, o.p_o, o.within)
 
-pub put_indexed-o-requires : goal.put_indexed-o-requires
-put_indexed-o-requires c = search rules
-
-pub no_room-requires-then-o-ne0 : goal.no_room-requires-then-o-ne0
-no_room-requires-then-o-ne0 c = search rules
-
 pub shape_of-table-then-o-ne0 : goal.shape_of-table-then-o-ne0
 shape_of-table-then-o-ne0 c =
     c.put_indexed-o.auto.table ∙ (c.put_indexed-p.auto.table ∙ c.put_indexed-s.auto.table)
@@ -195,10 +130,13 @@ shape_of-hash-then-o-ne0 c =
 pub returns-then-o-ne0 : goal.returns-then-o-ne0
 returns-then-o-ne0 c =
     answered_as c.no_room-then-o-ne0.ensures
-    (not_put c.put_indexed-o.ensures.1 (kept₃ c) refl (none₃ c c.if-o-ne0.true))
-
-pub line_ids-requires : goal.line_ids-requires
-line_ids-requires c = search rules
+    (not_put c.put_indexed-o.ensures.indexed
+    (kept₃ c.requires.0 c.put_indexed-s.ensures.indexed (terms_at c.args.t c.args.out.now) c.put_indexed-s.ensures.arena_after
+    c.if-s-ne0.false c.put_indexed-p.ensures.indexed c.put_indexed-p.ensures.arena_after
+    c.if-p-ne0.false c.put_indexed-o.ensures.indexed c.put_indexed-o.ensures.arena_after) refl
+    (none₃ c.requires.0 c.put_indexed-s.ensures.indexed (terms_at c.args.t c.args.out.now) c.put_indexed-s.ensures.arena_after
+    c.if-s-ne0.false c.put_indexed-p.ensures.indexed c.put_indexed-p.ensures.arena_after
+    c.if-p-ne0.false c.put_indexed-o.ensures.indexed c.put_indexed-o.ensures.arena_after c.if-o-ne0.true))
 
 pub shape_of-table : goal.shape_of-table
 shape_of-table c =
@@ -214,4 +152,20 @@ shape_of-hash c =
 
 pub returns : goal.returns
 returns c =
-    answered_as c.line_ids.ensures (all-put-are c c.if-o-ne0.false)
+    answered_as c.line_ids.ensures
+    (are_put c.put_indexed-o.ensures.indexed
+    (kept₃ c.requires.0 c.put_indexed-s.ensures.indexed (terms_at c.args.t c.args.out.now) c.put_indexed-s.ensures.arena_after
+    c.if-s-ne0.false c.put_indexed-p.ensures.indexed c.put_indexed-p.ensures.arena_after
+    c.if-p-ne0.false c.put_indexed-o.ensures.indexed c.put_indexed-o.ensures.arena_after) refl
+    (next₃ c.requires.0 c.put_indexed-s.ensures.indexed (terms_at c.args.t c.args.out.now) c.put_indexed-s.ensures.arena_after
+    c.if-s-ne0.false c.put_indexed-p.ensures.indexed c.put_indexed-p.ensures.arena_after
+    c.if-p-ne0.false c.put_indexed-o.ensures.indexed c.put_indexed-o.ensures.arena_after c.if-o-ne0.false)
+    (s_named c.requires.0 c.put_indexed-s.ensures.indexed (terms_at c.args.t c.args.out.now) c.put_indexed-s.ensures.arena_after
+    c.if-s-ne0.false c.put_indexed-p.ensures.indexed c.put_indexed-p.ensures.arena_after
+    c.if-p-ne0.false c.put_indexed-o.ensures.indexed c.put_indexed-o.ensures.arena_after)
+    (p_named c.requires.0 c.put_indexed-s.ensures.indexed (terms_at c.args.t c.args.out.now) c.put_indexed-s.ensures.arena_after
+    c.if-s-ne0.false c.put_indexed-p.ensures.indexed c.put_indexed-p.ensures.arena_after
+    c.if-p-ne0.false c.put_indexed-o.ensures.indexed c.put_indexed-o.ensures.arena_after)
+    (o_named c.requires.0 c.put_indexed-s.ensures.indexed (terms_at c.args.t c.args.out.now) c.put_indexed-s.ensures.arena_after
+    c.if-s-ne0.false c.put_indexed-p.ensures.indexed c.put_indexed-p.ensures.arena_after
+    c.if-p-ne0.false c.put_indexed-o.ensures.indexed c.put_indexed-o.ensures.arena_after c.if-o-ne0.false))

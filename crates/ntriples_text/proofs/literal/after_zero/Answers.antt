@@ -1,5 +1,5 @@
 -- `literal::after_zero` meets its contract. Assumes nothing.
-use Rattle.ntriples_text.proofs.Zeros.{Searching, searching_start, searching_step, searching_found, searching_end}
+use Rattle.ntriples_text.proofs.Zeros.{searching_start, searching_step, searching_found, searching_end}
 use borrow.Author.Rules.{rules}
 use Rattle.ntriples_text.proofs.literal.after_zero.Goals as goal
 

@@ -1,5 +1,4 @@
-use Rattle.ntriples_text.proofs.Zeros.{Searching, searching_start, searching_step, searching_found, searching_end}
-use borrow.Author.Rules.{rules}
+use Rattle.ntriples_text.proofs.Zeros.{Searching}
 use Rattle.ntriples_text.proofs.literal.after_zero.Given as goal
 
 abbrev pub invariant-loop-i : goal.invariant-loop-i

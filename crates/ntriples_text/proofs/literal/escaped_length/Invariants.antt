@@ -1,10 +1,6 @@
-use mathlib.Core.Path.{ap}
-use mathlib.Core.Logic.{⊎_elim}
 use Prim.Native.Nat.{◌-◌}
-use native.Mathlib.Omega.{arith}
-use lib.ListN.{length, get_or}
-use Rattle.ntriples_text.proofs.Escapes.{Measuring, measuring_start, measuring_step, measuring_end, as_it_is, in_two}
-use borrow.Author.Rules.{rules}
+use lib.ListN.{length}
+use Rattle.ntriples_text.proofs.Escapes.{Measuring}
 use Rattle.ntriples_text.proofs.literal.escaped_length.Given as goal
 
 abbrev pub invariant-loop-i : goal.invariant-loop-i

@@ -1,7 +1,5 @@
 -- `literal::has_colon` meets its contract. Assumes nothing.
-use Prim.Native.Nat.{◌-◌}
-use lib.ListN.{length}
-use Rattle.ntriples_text.proofs.Suffixes.{Looking, looking_start, looking_found, looking_step, looking_end}
+use Rattle.ntriples_text.proofs.Suffixes.{looking_start, looking_found, looking_step, looking_end}
 use borrow.Author.Rules.{rules}
 use Rattle.ntriples_text.proofs.literal.has_colon.Goals as goal
 

@@ -1,7 +1,6 @@
 use Prim.Native.Nat.{◌-◌}
 use lib.ListN.{length}
-use Rattle.ntriples_text.proofs.Suffixes.{Looking, looking_start, looking_found, looking_step, looking_end}
-use borrow.Author.Rules.{rules}
+use Rattle.ntriples_text.proofs.Suffixes.{Looking}
 use Rattle.ntriples_text.proofs.literal.has_colon.Given as goal
 
 abbrev pub invariant-loop-i : goal.invariant-loop-i

@@ -1,9 +1,7 @@
 -- `literal::literal_length` meets its contract. Assumes nothing.
-use Prim.Native.Nat.{◌+◌, ◌*◌, ◌≤◌}
 use native.Mathlib.Omega.{arith}
-use Rattle.common.specs.Sizes.{term_limit}
 use Rattle.dictionary_layout.specs.Terms.{term}
-use Rattle.ntriples_text.proofs.Texts.{Split, split, front_length, rest_length, unsplit, literal_none, measured_none, literal_few}
+use Rattle.ntriples_text.proofs.Texts.{split, front_length, rest_length, unsplit, literal_none, measured_none, literal_few}
 use Rattle.ntriples_text.proofs.Texts.{literal_measured, literal_unmeasured}
 use borrow.Author.Rules.{rules}
 use Rattle.ntriples_text.proofs.literal.literal_length.Goals as goal
@@ -57,22 +55,19 @@ suffix_length-d-requires c =
     omega (arith, rest_length (split c.after_zero-z.ensures c.if-z-eq0.false), pre.short)
 
 pub overflow_add-result : goal.overflow_add-result
-overflow_add-result c = omega (
-  arith,
-  (let pre = c.requires in
-      omega (arith, literal_few (split c.after_zero-z.ensures c.if-z-eq0.false) c.escaped_length-t.ensures c.suffix_length-d.ensures, pre.short)),
-)
+overflow_add-result c =
+    let few = literal_few (split c.after_zero-z.ensures c.if-z-eq0.false) c.escaped_length-t.ensures c.suffix_length-d.ensures in
+    omega (arith, few, c.requires.short)
 
 pub overflow_add-result-then-is_suffix : goal.overflow_add-result-then-is_suffix
-overflow_add-result-then-is_suffix c = omega (
-  arith,
-  (let pre = c.requires in
-      omega (arith, literal_few (split c.after_zero-z.ensures c.if-z-eq0.false) c.escaped_length-t.ensures c.suffix_length-d.ensures, pre.short)),
-)
+overflow_add-result-then-is_suffix c =
+    let few = literal_few (split c.after_zero-z.ensures c.if-z-eq0.false) c.escaped_length-t.ensures c.suffix_length-d.ensures in
+    omega (arith, few, c.requires.short)
 
 pub returns-then-is_suffix : goal.returns-then-is_suffix
 returns-then-is_suffix c =
-    literal_measured (split c.after_zero-z.ensures c.if-z-eq0.false) c.escaped_length-t.ensures c.suffix_length-d.ensures c.requires.decodes
+    literal_measured (split c.after_zero-z.ensures c.if-z-eq0.false) c.escaped_length-t.ensures c.suffix_length-d.ensures
+    c.requires.decodes
     c.is_suffix.ensures c.if-is_suffix.true
 
 pub returns : goal.returns

@@ -1,7 +1,5 @@
 -- `literal::put_escaped` meets its contract. Assumes nothing.
-use Prim.Native.Nat.{◌-◌}
-use lib.ListN.{length}
-use Rattle.ntriples_text.proofs.Escapes.{Escaping, escaping_start, escaping_room, escaping_step, escaping_end}
+use Rattle.ntriples_text.proofs.Escapes.{escaping_start, escaping_room, escaping_step, escaping_end}
 use borrow.Author.Rules.{rules}
 use Rattle.ntriples_text.proofs.literal.put_escaped.Goals as goal
 

@@ -1,7 +1,6 @@
 use Prim.Native.Nat.{◌-◌}
 use lib.ListN.{length}
-use Rattle.ntriples_text.proofs.Escapes.{Escaping, escaping_start, escaping_room, escaping_step, escaping_end}
-use borrow.Author.Rules.{rules}
+use Rattle.ntriples_text.proofs.Escapes.{Escaping}
 use Rattle.ntriples_text.proofs.literal.put_escaped.Given as goal
 
 abbrev pub invariant-loop-i : goal.invariant-loop-i

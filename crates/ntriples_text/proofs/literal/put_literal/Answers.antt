@@ -1,7 +1,7 @@
 -- `literal::put_literal` meets its contract. Assumes nothing.
 use native.Mathlib.Omega.{arith}
 use lib.ListN.{length-set}
-use Rattle.ntriples_text.proofs.Texts.{Split, front_length, literal_split, literal_room, suffix_room, put_quoted}
+use Rattle.ntriples_text.proofs.Texts.{front_length, literal_split, literal_room, suffix_room, put_quoted}
 use borrow.Author.Rules.{rules}
 use Rattle.ntriples_text.proofs.literal.put_literal.Goals as goal
 

@@ -1,8 +1,7 @@
 -- `store_rows::remove_zero_rows` meets its contract. Assumes nothing.
-use Rattle.std.proofs.Common.{◌-◌, sym, ◌∙◌, arith, rules}
-use borrow.Author.Tests.{not-true, not-false}
+use Rattle.std.proofs.Common.{sym, ◌∙◌, arith, rules}
 use Rattle.common.specs.Values.{row_of}
-use Rattle.store_rows.proofs.Removing.{Removing, removing_start, removing_skip, removing_keep, removing_end}
+use Rattle.store_rows.proofs.Removing.{removing_start, removing_skip, removing_keep, removing_end}
 use Rattle.store_rows.proofs.zeros.remove_zero_rows.Goals as goal
 
 pub loop-i-init : goal.loop-i-init

@@ -1,7 +1,5 @@
-use Rattle.std.proofs.Common.{◌-◌, sym, ◌∙◌, arith, rules}
-use borrow.Author.Tests.{not-true, not-false}
-use Rattle.common.specs.Values.{row_of}
-use Rattle.store_rows.proofs.Removing.{Removing, removing_start, removing_skip, removing_keep, removing_end}
+use Rattle.std.proofs.Common.{◌-◌}
+use Rattle.store_rows.proofs.Removing.{Removing}
 use Rattle.store_rows.proofs.zeros.remove_zero_rows.Given as goal
 
 abbrev pub invariant-loop-i : goal.invariant-loop-i
