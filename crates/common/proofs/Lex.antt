@@ -54,12 +54,14 @@ then_eq Ordering.lt f e = absurd (eq_lt (sym e))
 then_eq Ordering.eq f e = (refl, e)
 then_eq Ordering.gt f e = absurd (eq_gt (sym e))
 
-then_lt : (o : Ordering) (f : Unit {0} → Ordering) → then o f ≡ Ordering.lt → (o ≡ Ordering.lt) ⊎ ((o ≡ Ordering.eq) × (f tt ≡ Ordering.lt))
+then_lt : (o : Ordering) (f : Unit {0} → Ordering) → then o f ≡ Ordering.lt → (o ≡ Ordering.lt) ⊎
+    ((o ≡ Ordering.eq) × (f tt ≡ Ordering.lt))
 then_lt Ordering.lt f e = inl refl
 then_lt Ordering.eq f e = inr (refl, e)
 then_lt Ordering.gt f e = absurd (lt_gt (sym e))
 
-then_gt : (o : Ordering) (f : Unit {0} → Ordering) → then o f ≡ Ordering.gt → (o ≡ Ordering.gt) ⊎ ((o ≡ Ordering.eq) × (f tt ≡ Ordering.gt))
+then_gt : (o : Ordering) (f : Unit {0} → Ordering) → then o f ≡ Ordering.gt → (o ≡ Ordering.gt) ⊎
+    ((o ≡ Ordering.eq) × (f tt ≡ Ordering.gt))
 then_gt Ordering.lt f e = absurd (lt_gt e)
 then_gt Ordering.eq f e = inr (refl, e)
 then_gt Ordering.gt f e = inl refl

@@ -48,7 +48,8 @@ unfolding span
 span_ext zero i f g e = refl
 span_ext (suc n) i f g e = ap₂ (λ (x : ℕ) (l : List ℕ). x ∷ l) (e i (omega arith)) (span_ext n (suc i) f g (λ x h. e x (omega arith)))
 
-span_set : (n i : ℕ) (f g : ℕ → ℕ) (c v : ℕ) → c < n → v ≡ g (i + c) → ((x : ℕ) → x ≢ i + c → f x ≡ g x) → set (span n i f) c v ≡ span n i g
+span_set : (n i : ℕ) (f g : ℕ → ℕ) (c v : ℕ) → c < n → v ≡ g (i + c) → ((x : ℕ) → x ≢ i + c → f x ≡ g x) → set (span n i f) c v ≡ span n i
+    g
 unfolding span
 span_set zero i f g c v h e k = absurd (not-suc-le-zero h)
 span_set (suc n) i f g zero v h e k =

@@ -131,7 +131,8 @@ module _ {d : Dict} {n : ℕ} {namespace names ids : List ℕ} {from k : ℕ} (w
       (drop-cons ids k 0 h ∙ ap (λ (j : ℕ). i ∷ drop j ids) (sym (add-one k))) w.left)
 
   -- the next name is that of the next id
-  pub entering_next : {end next : ℕ} → Ends names from end next → Next d (get_or ids k 0) (namespace ++ take (end - from) (drop from names))
+  pub entering_next : {end next : ℕ} → Ends names from end next → Next d (get_or ids k 0)
+      (namespace ++ take (end - from) (drop from names))
   entering_next e = record {
     before = subst (Upto d) (sym first.id) w.upto;
     later = omega (arith, first.id, first.later);

@@ -226,4 +226,5 @@ arena_part tl al ts k h = part_at ts (replicate (al - size ts) 0) k h
 pub prev_same : (ts us : List Term) (c i : ℕ) → ((j : ℕ) → j < i → term_of us j ≡ term_of ts j) → prev us c i ≡ prev ts c i
 unfolding prev
 prev_same ts us c zero f = refl
-prev_same ts us c (suc i) f = λ j. if (eqb c (chain (f i (omega arith) j))) (λ _. i) (λ _. prev_same ts us c i (λ m l. f m (omega arith)) j)
+prev_same ts us c (suc i) f = λ j. if (eqb c (chain (f i (omega arith) j))) (λ _. i)
+    (λ _. prev_same ts us c i (λ m l. f m (omega arith)) j)

@@ -51,7 +51,8 @@ module _ (a : List ℕ) where
 
   -- a row that is zero at every place is a row of zeros
   pub zeros→same_row : Zeros (length a) a → true ≡ same_row a (replicate (length a) 0)
-  zeros→same_row f = all_agree a (replicate (length a) 0) (sym (length-replicate (length a) 0)) (λ k h. f k h ∙ sym (zeros_at (length a) k))
+  zeros→same_row f = all_agree a (replicate (length a) 0) (sym (length-replicate (length a) 0))
+      (λ k h. f k h ∙ sym (zeros_at (length a) k))
 
 -- the part of a row from a place to its end
 pub rest_part : (n : ℕ) (a : List ℕ) → take (length a - n) (drop n a) ≡ drop n a

@@ -101,4 +101,5 @@ module _ (table arena : List ℕ) where
           cell (4 * k) (entry_at k) refl (omega (arith, long))
           ∙ ap (λ (l : List ℕ). start_of table k ∷ l) (cell (suc (4 * k)) (entry_at k + 1) (omega arith) (omega (arith, long))
           ∙ ap (λ (l : List ℕ). length_of table k ∷ l) (cell (suc (suc (4 * k))) (entry_at k + 2) (omega arith) (omega (arith, long))
-          ∙ ap (λ (l : List ℕ). kind_of table k ∷ l) (cell (suc (suc (suc (4 * k)))) (entry_at k + 3) (omega arith) (omega (arith, long)))))
+          ∙ ap (λ (l : List ℕ). kind_of table k ∷ l)
+          (cell (suc (suc (suc (4 * k)))) (entry_at k + 3) (omega arith) (omega (arith, long)))))

@@ -71,7 +71,8 @@ module _ (c : Containers) (b : Lent) (cap fcap : ℕ) (X : List Triple) (R : Lis
       let into = computed_in c cap X Y s in
       let back : (C : Graph) → IsClosure c Y C → Sub C (graph_of (closure c (suc cap) X)) = λ C h. in_computed c cap X Y s C h a.fits in
       record {
-        ascending = subst (Ascending key_triple) (sym e) (without_zero_ascending (closure c (suc cap) X) (closure_ascending c (suc cap) X));
+        ascending = subst (Ascending key_triple) (sym e)
+            (without_zero_ascending (closure c (suc cap) X) (closure_ascending c (suc cap) X));
         sound = λ C h x y z i.
             let (j, g) = in_without_zero→ (closure c (suc cap) X) (triple x y z) (subst (In (triple x y z)) e i) in
             (into C h x y z j, g);

@@ -52,7 +52,8 @@ module _ (n : ℕ) (store : List ℕ) (h : length store % width ≡ 0) where
       → T (known n x)
   row_ids t {j} l e =
       subst (λ y. T (known n y)) (sym e)
-      (all→ (known n) (subst (λ xs. T (all (known n) xs)) (sym (rows_all store h)) t) (in_listed← (length store / width) (row_at store) j l))
+      (all→ (known n) (subst (λ xs. T (all (known n) xs)) (sym (rows_all store h)) t)
+      (in_listed← (length store / width) (row_at store) j l))
 
   pub all_ids : ((j : ℕ) → j < length store / width → T (known n (row_at store j))) → T (all (known n) (row_triples store))
   all_ids f =

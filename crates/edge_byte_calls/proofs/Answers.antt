@@ -66,7 +66,8 @@ Ids x = Id x.check × Id x.a × Id x.b × Id x.c × Id x.d
 
 fit_flat_findings : (xs : List Finding) → ((x : Finding) → In x xs → Ids x) → FitBytes (flat_findings xs)
 fit_flat_findings [] f = tt
-fit_flat_findings (x ∷ xs) f = let (n, a, b, c, d) = f x (here refl) in (n, (a, (b, (c, (d, fit_flat_findings xs (λ y i. f y (there i)))))))
+fit_flat_findings (x ∷ xs) f = let (n, a, b, c, d) = f x (here refl) in
+    (n, (a, (b, (c, (d, fit_flat_findings xs (λ y i. f y (there i)))))))
 
 fit_filled : (buffer row : List ℕ) → FitBytes row → FitBytes (filled buffer row)
 fit_filled buffer row f = fit_append row (replicate (length buffer - length row) 0) f (fit_zeros (length buffer - length row))

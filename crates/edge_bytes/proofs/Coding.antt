@@ -96,7 +96,8 @@ bytes_more ws bs all i h k p =
       ← bytes_step ws i h,
     ) p
 
-pub bytes_done : (ws bs all : List ℕ) (i : ℕ) → length ws ≤ i → length bs ≤ 4 * i → take (4 * i) bs ++ bytes_of (drop i ws) ≡ all → bs ≡ all
+pub bytes_done : (ws bs all : List ℕ) (i : ℕ) → length ws ≤ i → length bs ≤ 4 * i → take (4 * i) bs ++ bytes_of (drop i ws) ≡ all → bs ≡
+    all
 unfolding bytes_of
 bytes_done ws bs all i h k p =
     let q : take (4 * i) bs ++ bytes_of [] ≡ all = rw (drop_of_length-le ws h) at p in

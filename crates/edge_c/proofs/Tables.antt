@@ -104,7 +104,8 @@ module _ (tb t a : List ℕ) (h : TableForwarded tb (length t)) where
           ∙ sym (start_accepts (read_buffer tb) a (sym same_refusal ∙ e)))
       go (suc n) e =
           let z : suc n ≢ 0 = λ q. omega arith in
-          let k : false ≡ changes (suc n) = subst (λ (m : ℕ). false ≡ changes m) e (start_quiet (length t) (length a) (λ q. omega arith)) in
+          let k : false ≡ changes (suc n) = subst (λ (m : ℕ). false ≡ changes m) e (start_quiet (length t) (length a) (λ q. omega arith))
+          in
           sym (ap (start_in_bytes tb) (start_refuses t a (suc n) (sym e) z))
           ∙ ap (λ (l : List ℕ). refused (suc n) l) (same_left (suc n) tb t (read_buffer tb) k)
           ∙ ap (start_in_bytes tb) (start_refuses (read_buffer tb) a (suc n) (sym e ∙ same_refusal) z)

@@ -37,7 +37,8 @@ seeking_start bs e at h = record { upto = h; is = refl }
 -- the byte is here
 pub seeking_found : {bs : List ℕ} {e at i : ℕ} → Seeking bs e at i → i < length bs → get_or bs i 0 ≡ e
     → i ≡ at + length (before e (drop at bs))
-seeking_found {bs} {e} {at} {i} s h f = sym (s.is ∙ rw (drop-cons bs i 0 h, before_found e (get_or bs i 0) (drop (suc i) bs) f) (add-zero i))
+seeking_found {bs} {e} {at} {i} s h f = sym (s.is ∙ rw (drop-cons bs i 0 h, before_found e (get_or bs i 0) (drop (suc i) bs) f)
+    (add-zero i))
 
 -- another byte is here
 pub seeking_step : {bs : List ℕ} {e at i : ℕ} → Seeking bs e at i → i < length bs → (get_or bs i 0 ≡ e → ⊥) → Seeking bs e at (i + 1)

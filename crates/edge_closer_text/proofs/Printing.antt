@@ -54,7 +54,8 @@ three_words a b c f g h (suc (suc (suc k))) = omega arith
 pub three_short : (a b c : ℕ) → a < 2 ^ 32 → b < 2 ^ 32 → c < 2 ^ 32 → length (line (a ∷ b ∷ c ∷ [])) ≤ three_width
 three_short a b c f g h = line_short (a ∷ b ∷ c ∷ []) (three_words a b c f g h)
 
-module _ {store : List ℕ} {triples : ℕ} {findings : List ℕ} {records : ℕ} {old : List ℕ} (f : AnswerFits store triples findings records old)
+module _ {store : List ℕ} {triples : ℕ} {findings : List ℕ} {records : ℕ} {old : List ℕ}
+    (f : AnswerFits store triples findings records old)
     (h : triples < 2 ^ 32) (i : records < 2 ^ 32) {b : List ℕ} {m : ℕ} (w : Wrote old 0 (line (0 ∷ triples ∷ records ∷ [])) b m) where
   -- there is room for the triples after the counts,
   pub triples_fit : TableFits store store_width triple_width triples b m

@@ -69,7 +69,13 @@ pub record Lined (ns old : List ℕ) (at : ℕ) (new : List ℕ) (to i : ℕ) : 
 
 -- nothing was written
 pub lined_start : (ns old : List ℕ) (at : ℕ) → at + number_width * length ns ≤ length old → Lined ns old at old at 0
-lined_start ns old at h = record { text = []; wrote = wrote_none old at (omega arith); left = refl; upto = omega arith; room = omega arith }
+lined_start ns old at h = record {
+  text = [];
+  wrote = wrote_none old at (omega arith);
+  left = refl;
+  upto = omega arith;
+  room = omega arith;
+}
 
 module _ {ns old : List ℕ} {at : ℕ} {new : List ℕ} {to i : ℕ} (fits : at + number_width * length ns ≤ length old)
     (c : Lined ns old at new to i) where

@@ -65,7 +65,8 @@ pub few_digits : (k n : ℕ) → n < 10 ^ suc k → length (digits n) ≤ suc k
 few_digits zero n h = rw (digits_one n h) (omega arith)
 few_digits (suc k) n h = go (either (ltb n 10)) (λ i. few_digits k (n / 10) i)
   where
-    go : (ltb n 10 ≡ true) ⊎ (ltb n 10 ≡ false) → (n / 10 < 10 ^ suc k → length (digits (n / 10)) ≤ suc k) → length (digits n) ≤ suc (suc k)
+    go : (ltb n 10 ≡ true) ⊎ (ltb n 10 ≡ false) → (n / 10 < 10 ^ suc k → length (digits (n / 10)) ≤ suc k) → length (digits n) ≤ suc
+        (suc k)
     go (inl e) ih = rw (digits_one n (ltb-true n 10 e)) (omega arith)
     go (inr e) ih =
         rw (digits_more n (ltb-false n 10 e)) (simp length-append (let w = pow-suc 10 (suc k) in omega (arith, ih (omega arith))))

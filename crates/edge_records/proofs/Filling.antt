@@ -79,7 +79,8 @@ filled_front l ys (suc k) h j =
     let q : finding_width * suc k ≡ finding_width * k + finding_width = omega arith in
     let within : k < length x = subst (λ (n : ℕ). k < n) (sym (length_filled l k ys)) (omega arith) in
     ap (λ (n : ℕ). take (suc k) (set x k (five_at l k)) ++ records_of (drop n l)) q
-    ∙ (ap (λ (z : List FindingRecord). z ++ records_of (drop (finding_width * k + finding_width) l)) (take-suc-set x k (five_at l k) within)
+    ∙ (ap (λ (z : List FindingRecord). z ++ records_of (drop (finding_width * k + finding_width) l))
+    (take-suc-set x k (five_at l k) within)
     ∙ (append_snoc (take k x) (five_at l k) (records_of (drop (finding_width * k + finding_width) l))
     ∙ (ap (λ (z : List FindingRecord). take k x ++ z) (sym (records_step l (finding_width * k) (omega arith)))
     ∙ filled_front l ys k (omega arith) (omega arith))))

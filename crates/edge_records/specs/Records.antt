@@ -34,7 +34,8 @@ records_give numbers records =
 -- HOW THE CODE GOES ABOUT IT: the i-th record, the plan, and k records filled
 abbrev pub five_at : List ℕ → ℕ → FindingRecord
 five_at l i =
-    let at = finding_width * i in five (get_or l at 0) (get_or l (at + 1) 0) (get_or l (at + 2) 0) (get_or l (at + 3) 0) (get_or l (at + 4) 0)
+    let at = finding_width * i in five (get_or l at 0) (get_or l (at + 1) 0) (get_or l (at + 2) 0) (get_or l (at + 3) 0)
+    (get_or l (at + 4) 0)
 
 abbrev pub plan_for : ℕ → ℕ → Plan
 plan_for m n =

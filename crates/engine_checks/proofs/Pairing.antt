@@ -154,7 +154,8 @@ module _ (l : List ℕ) (n : ℕ) where
 
   -- row j is the triple of these ids
   there_is : {x y z : ℕ} (j : ℕ) → j < n → (row_at l j).s ≡ x → (row_at l j).p ≡ y → (row_at l j).o ≡ z → In (triple x y z) (rows n l)
-  there_is {x} {y} {z} j b p q r = in_rows← {l = l} {n = n} (record { at = j; below = b; is = triple_eq (row_at l j) (triple x y z) p q r })
+  there_is {x} {y} {z} j b p q r = in_rows← {l = l} {n = n}
+      (record { at = j; below = b; is = triple_eq (row_at l j) (triple x y z) p q r })
 
   pair→found : (k : CheckKind) (i j : ℕ) → i < n → j < n → Axiom k (row_at l i)
       → Violates k (row_graph l n) (row_at l i) (row_at l j) → (x : Finding) → x ≡ finding_by k (row_at l i) (row_at l j)

@@ -71,7 +71,8 @@ module _ {key : ℕ → ℕ} {x m : ℕ} {D : ℕ → Finding → Type 0} where
         (is_or_not i.at (cur - 1))
 
     -- a row for which nothing is given; v is the next row of the key
-    pub scanning_skip : {v : ℕ} → Last key (key (cur - 1)) (cur - 1) v → ((y : Finding) → D (cur - 1) y → ⊥) → Scanning key x m D f a f' b v
+    pub scanning_skip : {v : ℕ} → Last key (key (cur - 1)) (cur - 1) v → ((y : Finding) → D (cur - 1) y → ⊥) → Scanning key x m D f a f' b
+        v
     scanning_skip {v} h d = record {
       below = omega (arith, h.below, s.below);
       here = (last h).here;

@@ -267,7 +267,8 @@ module _ (d : Dict) (load f : List ℕ) where
   cap = length load / load_width
 
   -- what is read is given
-  accepts : T (valid d) → length load % load_width ≡ 0 → (us : List Term) (xs : List Triple) → read_file tl al cap (decode d) f ≡ read us xs
+  accepts : T (valid d) → length load % load_width ≡ 0 → (us : List Term) (xs : List Triple) → read_file tl al cap (decode d) f ≡ read us
+      xs
       → read_gives d load f ≡ accepted load (length xs) (flat xs) (layout tl al us)
   accepts v w us xs e =
       read_valid d load f v

@@ -20,7 +20,8 @@ pub clear_start : (file : List ℕ) (at : ℕ) → at ≤ length file → Clear 
 clear_start file at h = record { above = omega arith; upto = h; no_end = λ k i j t. omega arith }
 
 -- one more is
-pub clear_more : (file : List ℕ) (at e : ℕ) → Clear file at e → e < length file → (T (line_end (get_or file e 0)) → ⊥) → Clear file at (e + 1)
+pub clear_more : (file : List ℕ) (at e : ℕ) → Clear file at e → e < length file → (T (line_end (get_or file e 0)) → ⊥) → Clear file at
+    (e + 1)
 clear_more file at e c h n = record {
   above = omega (arith, c.above);
   upto = omega arith;

@@ -91,7 +91,8 @@ module _ (tl al cap : ℕ) where
           ys = x ∷ b.ys;
           is =
               ap (read_lines tl al cap ts xs) (line_first l f (line_inline t l e))
-              ∙ (ap (λ (o : Outcome). on_read o (λ us ys. read_lines tl al cap us ys (lines f))) (line_read fit (omega arith) (omega arith))
+              ∙ (ap (λ (o : Outcome). on_read o (λ us ys. read_lines tl al cap us ys (lines f)))
+              (line_read fit (omega arith) (omega arith))
               ∙ (b.is ∙ ap (read (with_terms mid (all_terms w))) (append_assoc xs (x ∷ []) b.ys)));
           same =
               subst (λ (us : List Term). as_terms us (x ∷ b.ys) ≡ t ∷ as_terms us b.ys) (sym g.whole) (terms_back g.new b.ys)

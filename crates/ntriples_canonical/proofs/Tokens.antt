@@ -97,7 +97,8 @@ string_all : (cs r : List ℕ) → string_from (escape_all cs ++ (34 ∷ r)) ≡
 unfolding escape_all quoted
 string_all [] r = refl
 string_all (c ∷ cs) r =
-    ap string_from (append_assoc (escaped c) (escape_all cs) (34 ∷ r)) ∙ character_read c cs r (escape_all cs ++ (34 ∷ r)) (string_all cs r)
+    ap string_from (append_assoc (escaped c) (escape_all cs) (34 ∷ r)) ∙ character_read c cs r (escape_all cs ++ (34 ∷ r))
+    (string_all cs r)
 
 -- a literal's text, escaped
 pub string_back : (cs r : List ℕ) → string_literal_quote (34 ∷ (escape_all cs ++ (34 ∷ r))) ≡ some (token cs r)

@@ -174,7 +174,8 @@ module _ (chars : List ℕ) (at : ℕ) (h : at + 2 < length chars) where
     label_first_bad b = both ∙ ap (λ (x : Bool). when x (λ _. push (get_or chars (at + 2) 0) (label_rest (drop (at + 3) chars)))) (sym b)
 
     -- or one, and the rest
-    pub label_is : {end : ℕ} → true ≡ (pn_chars_u (get_or chars (at + 2) 0) || digit (get_or chars (at + 2) 0)) → LabelEnds chars (at + 3) end
+    pub label_is : {end : ℕ} → true ≡ (pn_chars_u (get_or chars (at + 2) 0) || digit (get_or chars (at + 2) 0)) → LabelEnds chars (at + 3)
+        end
         → blank_node_label (drop at chars) ≡ some (token (part chars (at + 2) end) (drop end chars))
     unfolding label
     label_is {end} b r =
@@ -201,7 +202,8 @@ empty_drop (c ∷ l) zero h = sym (eqb-zero-suc (length l))
 empty_drop (c ∷ l) (suc end) h = empty_drop l end (omega arith) ∙ sym (eqb-suc-suc end (length l))
 
 -- the first may stand there, and its rest ends with the last,
-pub whole_is : (chars : List ℕ) {end : ℕ} {r : Bool} → 0 < length chars → true ≡ (pn_chars_u (get_or chars 0 0) || digit (get_or chars 0 0))
+pub whole_is : (chars : List ℕ) {end : ℕ} {r : Bool} → 0 < length chars → true ≡
+    (pn_chars_u (get_or chars 0 0) || digit (get_or chars 0 0))
     → LabelEnds chars 1 end → r ≡ eqb end (length chars) → r ≡ whole (label chars)
 unfolding label
 whole_is [] h b e q = absurd (omega arith)

@@ -60,7 +60,8 @@ module _ {bytes : List ℕ} {letters seen : Bool} {i : ℕ} (t : Tagging bytes l
       rw add-one (record { is = next ∙ rw (ne_eqb (get_or bytes i 0) 45 n, e, d) (rw f refl); within = h })
 
   -- nothing else,
-  pub tagging_other : (get_or bytes i 0 ≡ 45 → ⊥) → letter (get_or bytes i 0) ≡ false → digit (get_or bytes i 0) ≡ false → false ≡ tag bytes
+  pub tagging_other : (get_or bytes i 0 ≡ 45 → ⊥) → letter (get_or bytes i 0) ≡ false → digit (get_or bytes i 0) ≡ false → false ≡ tag
+      bytes
   unfolding tag_from
   tagging_other n e d = sym (next ∙ rw (ne_eqb (get_or bytes i 0) 45 n, e, d) (neither letters _))
 

@@ -27,7 +27,8 @@ room_later {chars} {at} {out} {used} {i} r h l =
     let m = r.room in record { within = l; scalars = r.scalars; room = omega arith }
 
 -- no token
-pub parses_none : {chars : List ℕ} {at : ℕ} {old : List ℕ} {used : ℕ} {o : Option Token} {new : List ℕ} → o ≡ none → length new ≡ length old
+pub parses_none : {chars : List ℕ} {at : ℕ} {old : List ℕ} {used : ℕ} {o : Option Token} {new : List ℕ} → o ≡ none → length new ≡ length
+    old
     → Parses 0 chars at old used o NoToken new
 parses_none {chars} {at} {old} {used} {o} e l =
     record { output_is = sym (ap (behind (take used old)) e); bounded = tt; same = l }

@@ -1,5 +1,6 @@
 -- Rows with a zero id taken out: what the loop keeps. Assumes nothing.
-use Rattle.std.proofs.Common.{◌≡◌, ℕ, ◌+◌, ◌*◌, ◌<◌, ◌≤◌, Bool, true, false, not, eqb, List, [], ◌∷◌, ◌++◌, length, get_or, sym, refl, ap, ◌∙◌, subst, inr, append_assoc, append-nil, arith, eq-eqb, ne_eqb}
+use Rattle.std.proofs.Common.{◌≡◌, ℕ, ◌+◌, ◌*◌, ◌<◌, ◌≤◌, Bool, true, false, not, eqb, List, [], ◌∷◌, ◌++◌, length, get_or, sym, refl, ap}
+use Rattle.std.proofs.Common.{◌∙◌, subst, inr, append_assoc, append-nil, arith, eq-eqb, ne_eqb}
 use Rattle.common.specs.Triples.{Triple, Row, if, concat_map, no_zero, without_zero_rows}
 use Rattle.store_rows.specs.Rows.{width, row_at, whole_row_at, set_row, whole_rows}
 use Rattle.store_rows.specs.Zeros.{Kept}

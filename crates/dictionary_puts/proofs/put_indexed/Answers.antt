@@ -55,7 +55,8 @@ overflow_cast-counters c = search rules
 
 pub hash_entry-requires : goal.hash_entry-requires
 hash_entry-requires c =
-    index_room c.requires (term c.args.kind c.args.bytes.now) (sym c.put_refusal-refusal.ensures ∙ c.if-refusal-ne0.false) c.digest-d.ensures
+    index_room c.requires (term c.args.kind c.args.bytes.now) (sym c.put_refusal-refusal.ensures ∙ c.if-refusal-ne0.false)
+    c.digest-d.ensures
 
 pub shape_of-table-then-counters-next : goal.shape_of-table-then-counters-next
 shape_of-table-then-counters-next c = search rules
@@ -70,7 +71,8 @@ pub returns-then-counters-next : goal.returns-then-counters-next
 returns-then-counters-next c =
     let e = c.put_found-next.ensures in record {
       arena_after = e;
-      indexed = index_more c.requires (term c.args.kind c.args.bytes.now) e c.if-counters-next.true (sym c.put_refusal-refusal.ensures ∙ c.if-refusal-ne0.false) c.digest-d.ensures c.hash_entry.ensures;
+      indexed = index_more c.requires (term c.args.kind c.args.bytes.now) e c.if-counters-next.true
+          (sym c.put_refusal-refusal.ensures ∙ c.if-refusal-ne0.false) c.digest-d.ensures c.hash_entry.ensures;
     }
 
 pub shape_of-table-else-counters-next : goal.shape_of-table-else-counters-next

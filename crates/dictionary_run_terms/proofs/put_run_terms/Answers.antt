@@ -27,13 +27,16 @@ put_valid-p-requires c =
 
 pub put_valid-q-requires : goal.put_valid-q-requires
 put_valid-q-requires c =
-    let p = c.put_valid-p.ensures ∙ run_first (dict₀ c.before.before.before.before.before.before.before.before.before.before.before.before.before.before.before.before.before.before.before) c.requires (fit c.before.before.before.before.before.before.before.before.before.before.before.before.before.before.before) in
+    let p = c.put_valid-p.ensures ∙ run_first
+    (dict₀ c.before.before.before.before.before.before.before.before.before.before.before.before.before.before.before.before.before.before.before) c.requires (fit c.before.before.before.before.before.before.before.before.before.before.before.before.before.before.before) in
     run_valid (dict₀ c.before.before.before.before.before.before.before.before.before.before.before.before.before.before.before.before.before.before.before) c.requires (fit c.before.before.before.before.before.before.before.before.before.before.before.before.before.before.before) (ap (λ (x : PutResult). x.contents) p)
 
 pub put_valid-r-requires : goal.put_valid-r-requires
 put_valid-r-requires c =
-    let p = c.put_valid-p.ensures ∙ run_first (dict₀ c.before.before.before.before.before.before.before.before.before.before.before.before.before.before.before.before.before.before.before.before.before.before.before.before.before.before.before.before.before.before) c.requires (fit c.before.before.before.before.before.before.before.before.before.before.before.before.before.before.before.before.before.before.before.before.before.before.before.before.before.before) in
-    let q = c.put_valid-q.ensures ∙ run_second (dict₀ c.before.before.before.before.before.before.before.before.before.before.before.before.before.before.before.before.before.before.before.before.before.before.before.before.before.before.before.before.before.before) c.requires (fit c.before.before.before.before.before.before.before.before.before.before.before.before.before.before.before.before.before.before.before.before.before.before.before.before.before.before) (ap (λ (x : PutResult). x.contents) p) in
+    let p = c.put_valid-p.ensures ∙ run_first
+    (dict₀ c.before.before.before.before.before.before.before.before.before.before.before.before.before.before.before.before.before.before.before.before.before.before.before.before.before.before.before.before.before.before) c.requires (fit c.before.before.before.before.before.before.before.before.before.before.before.before.before.before.before.before.before.before.before.before.before.before.before.before.before.before) in
+    let q = c.put_valid-q.ensures ∙ run_second
+    (dict₀ c.before.before.before.before.before.before.before.before.before.before.before.before.before.before.before.before.before.before.before.before.before.before.before.before.before.before.before.before.before.before) c.requires (fit c.before.before.before.before.before.before.before.before.before.before.before.before.before.before.before.before.before.before.before.before.before.before.before.before.before.before) (ap (λ (x : PutResult). x.contents) p) in
     run_valid_2 (dict₀ c.before.before.before.before.before.before.before.before.before.before.before.before.before.before.before.before.before.before.before.before.before.before.before.before.before.before.before.before.before.before) c.requires (fit c.before.before.before.before.before.before.before.before.before.before.before.before.before.before.before.before.before.before.before.before.before.before.before.before.before.before) (ap (λ (x : PutResult). x.contents) q)
 
 pub shape_of-table-then-run_terms_fit : goal.shape_of-table-then-run_terms_fit
@@ -46,10 +49,14 @@ shape_of-arena-then-run_terms_fit c =
 
 pub returns-then-run_terms_fit : goal.returns-then-run_terms_fit
 returns-then-run_terms_fit c =
-    let p = c.put_valid-p.ensures ∙ run_first (dict₀ c.before.before.before.before.before.before.before.before.before.before.before.before.before.before.before.before.before.before.before.before.before.before.before.before.before.before.before.before.before.before.before.before.before.before.before.before.before.before) c.requires (fit c.before.before.before.before.before.before.before.before.before.before.before.before.before.before.before.before.before.before.before.before.before.before.before.before.before.before.before.before.before.before.before.before.before.before) in
-    let q = c.put_valid-q.ensures ∙ run_second (dict₀ c.before.before.before.before.before.before.before.before.before.before.before.before.before.before.before.before.before.before.before.before.before.before.before.before.before.before.before.before.before.before.before.before.before.before.before.before.before.before) c.requires (fit c.before.before.before.before.before.before.before.before.before.before.before.before.before.before.before.before.before.before.before.before.before.before.before.before.before.before.before.before.before.before.before.before.before.before) (ap (λ (x : PutResult). x.contents) p) in
-    let r = c.put_valid-r.ensures ∙ run_third (dict₀ c.before.before.before.before.before.before.before.before.before.before.before.before.before.before.before.before.before.before.before.before.before.before.before.before.before.before.before.before.before.before.before.before.before.before.before.before.before.before) c.requires (fit c.before.before.before.before.before.before.before.before.before.before.before.before.before.before.before.before.before.before.before.before.before.before.before.before.before.before.before.before.before.before.before.before.before.before) (ap (λ (x : PutResult). x.contents) q) in
-    run_results p q r ∙ run_all_put (dict₀ c.before.before.before.before.before.before.before.before.before.before.before.before.before.before.before.before.before.before.before.before.before.before.before.before.before.before.before.before.before.before.before.before.before.before.before.before.before.before) c.requires (fit c.before.before.before.before.before.before.before.before.before.before.before.before.before.before.before.before.before.before.before.before.before.before.before.before.before.before.before.before.before.before.before.before.before.before)
+    let p = c.put_valid-p.ensures ∙ run_first
+    (dict₀ c.before.before.before.before.before.before.before.before.before.before.before.before.before.before.before.before.before.before.before.before.before.before.before.before.before.before.before.before.before.before.before.before.before.before.before.before.before.before) c.requires (fit c.before.before.before.before.before.before.before.before.before.before.before.before.before.before.before.before.before.before.before.before.before.before.before.before.before.before.before.before.before.before.before.before.before.before) in
+    let q = c.put_valid-q.ensures ∙ run_second
+    (dict₀ c.before.before.before.before.before.before.before.before.before.before.before.before.before.before.before.before.before.before.before.before.before.before.before.before.before.before.before.before.before.before.before.before.before.before.before.before.before.before) c.requires (fit c.before.before.before.before.before.before.before.before.before.before.before.before.before.before.before.before.before.before.before.before.before.before.before.before.before.before.before.before.before.before.before.before.before.before) (ap (λ (x : PutResult). x.contents) p) in
+    let r = c.put_valid-r.ensures ∙ run_third
+    (dict₀ c.before.before.before.before.before.before.before.before.before.before.before.before.before.before.before.before.before.before.before.before.before.before.before.before.before.before.before.before.before.before.before.before.before.before.before.before.before.before) c.requires (fit c.before.before.before.before.before.before.before.before.before.before.before.before.before.before.before.before.before.before.before.before.before.before.before.before.before.before.before.before.before.before.before.before.before.before) (ap (λ (x : PutResult). x.contents) q) in
+    run_results p q r ∙ run_all_put
+    (dict₀ c.before.before.before.before.before.before.before.before.before.before.before.before.before.before.before.before.before.before.before.before.before.before.before.before.before.before.before.before.before.before.before.before.before.before.before.before.before.before) c.requires (fit c.before.before.before.before.before.before.before.before.before.before.before.before.before.before.before.before.before.before.before.before.before.before.before.before.before.before.before.before.before.before.before.before.before.before)
 
 pub shape_of-table : goal.shape_of-table
 shape_of-table c = search rules

@@ -10,7 +10,8 @@ use Rattle.edge_bytes.proofs.write_numbers.Given as goal
 
 abbrev pub invariant-loop-i : goal.invariant-loop-i
 invariant-loop-i l =
-    ((l.i ≤ length l.numbers) × (length l.bytes ≡ length l.initial.bytes)) × (take (4 * l.i) l.bytes ++ bytes_of (drop l.i l.numbers) ≡ bytes_of l.numbers)
+    ((l.i ≤ length l.numbers) × (length l.bytes ≡ length l.initial.bytes)) ×
+    (take (4 * l.i) l.bytes ++ bytes_of (drop l.i l.numbers) ≡ bytes_of l.numbers)
 
 abbrev pub decreases-loop-i : goal.decreases-loop-i
 decreases-loop-i l = length l.numbers - l.i

@@ -17,7 +17,8 @@ use Rattle.engine_checks.proofs.check_row.Given as goal
 
 abbrev pub invariant-loop-cur : goal.invariant-loop-cur
 invariant-loop-cur l =
-    Scanning (λ j. key_by l.k (row_at l.store j)) l.key l.n (λ j. Gives l.k (row_graph l.store l.n) (triple_of l.t) (row_at l.store j)) l.initial.findings
+    Scanning (λ j. key_by l.k (row_at l.store j)) l.key l.n (λ j. Gives l.k (row_graph l.store l.n) (triple_of l.t) (row_at l.store j))
+    l.initial.findings
     l.initial.done l.findings l.done l.cur
     × (length l.findings ≡ length l.initial.findings)
 

@@ -39,7 +39,8 @@ slice_bounds-statement-end-2 c =
 
 pub statement-requires : goal.statement-requires
 statement-requires c =
-    line_room (c.in-Chars.n) (c.decode.new.chars) c.requires (case_few c.in-Chars.is c.decode.ensures) (omega arith) (case_decoded c.in-Chars.is c.decode.ensures)
+    line_room (c.in-Chars.n) (c.decode.new.chars) c.requires (case_few c.in-Chars.is c.decode.ensures) (omega arith)
+    (case_decoded c.in-Chars.is c.decode.ensures)
 
 pub shape_of-chars : goal.shape_of-chars
 shape_of-chars c = search rules
@@ -49,4 +50,5 @@ shape_of-out c = search rules
 
 pub returns : goal.returns
 returns c =
-    rw (line_decoded c.args.bytes.now (take (c.in-Chars.n) (c.decode.new.chars)) (case_decoded c.in-Chars.is c.decode.ensures)) c.statement.ensures
+    rw (line_decoded c.args.bytes.now (take (c.in-Chars.n) (c.decode.new.chars)) (case_decoded c.in-Chars.is c.decode.ensures))
+    c.statement.ensures

@@ -84,7 +84,8 @@ shape_of-out-in_default-object c = search rules
 pub returns-in_default-object : goal.returns-in_default-object
 returns-in_default-object c =
     let e = case_no_term c.in_default-object.is c.object.ensures in
-    says_bad (object_bad (case_term c.in-Of.is c.subject.ensures) (c.skip_space-p.ensures) (case_term c.in-Of-named.is c.named.ensures) c.skip_space-o.ensures e)
+    says_bad (object_bad (case_term c.in-Of.is c.subject.ensures) (c.skip_space-p.ensures) (case_term c.in-Of-named.is c.named.ensures)
+    c.skip_space-o.ensures e)
 
 pub skip_space-dot-requires : goal.skip_space-dot-requires
 skip_space-dot-requires c =
@@ -99,7 +100,8 @@ shape_of-out-then-stopped c = search rules
 
 pub returns-then-stopped : goal.returns-then-stopped
 returns-then-stopped c =
-    triple_said (case_term c.in-Of.is c.subject.ensures) (c.skip_space-p.ensures) (case_term c.in-Of-named.is c.named.ensures) (c.skip_space-o.ensures) (case_term c.in-Of-object.is c.object.ensures) c.skip_space-dot.ensures
+    triple_said (case_term c.in-Of.is c.subject.ensures) (c.skip_space-p.ensures) (case_term c.in-Of-named.is c.named.ensures)
+    (c.skip_space-o.ensures) (case_term c.in-Of-object.is c.object.ensures) c.skip_space-dot.ensures
     c.requires (sym c.if-stopped.true ∙ c.stopped.ensures)
 
 pub shape_of-out : goal.shape_of-out
@@ -107,5 +109,6 @@ shape_of-out c = search rules
 
 pub returns : goal.returns
 returns c =
-    says_bad (unstopped (case_term c.in-Of.is c.subject.ensures) (c.skip_space-p.ensures) (case_term c.in-Of-named.is c.named.ensures) (c.skip_space-o.ensures) (case_term c.in-Of-object.is c.object.ensures)
+    says_bad (unstopped (case_term c.in-Of.is c.subject.ensures) (c.skip_space-p.ensures) (case_term c.in-Of-named.is c.named.ensures)
+    (c.skip_space-o.ensures) (case_term c.in-Of-object.is c.object.ensures)
     c.skip_space-dot.ensures (sym c.if-stopped.false ∙ c.stopped.ensures))

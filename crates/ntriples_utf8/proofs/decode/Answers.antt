@@ -37,7 +37,8 @@ loop-i-smaller-then-b-lt128 c = search rules
 
 pub loop-i-preserved-then-b-lt128 : goal.loop-i-preserved-then-b-lt128
 loop-i-preserved-then-b-lt128 c =
-    decoding_next c.loop-i.invariant c.loop-i-test.true c.requires (get_or c.args.bytes.now c.loop-i.i 0) 0 ((let bytes = c.args.bytes.now in
+    decoding_next c.loop-i.invariant c.loop-i-test.true c.requires (get_or c.args.bytes.now c.loop-i.i 0) 0
+    ((let bytes = c.args.bytes.now in
     first_one (get_or bytes c.loop-i.i 0) (drop (suc c.loop-i.i) bytes) c.if-b-lt128.true))
 
 pub first-requires : goal.first-requires
@@ -66,17 +67,21 @@ pub overflow_add-n-in-loop-i : goal.overflow_add-n-in-loop-i
 overflow_add-n-in-loop-i c = let i = c.loop-i.invariant in omega arith
 
 pub overflow_add-i-in-loop-i : goal.overflow_add-i-in-loop-i
-overflow_add-i-in-loop-i c = let b = (extra_few c.loop-i.invariant c.loop-i-test.true c.requires (c.in-Value.c) (c.in-Value.extra) ((case_value c.in-Value.is c.first.ensures))) in omega arith
+overflow_add-i-in-loop-i c = let b = (extra_few c.loop-i.invariant c.loop-i-test.true c.requires (c.in-Value.c) (c.in-Value.extra)
+    ((case_value c.in-Value.is c.first.ensures))) in omega arith
 
 pub overflow_add-i-in-loop-i-2 : goal.overflow_add-i-in-loop-i-2
-overflow_add-i-in-loop-i-2 c = let b = (extra_few c.loop-i.invariant c.loop-i-test.true c.requires (c.in-Value.c) (c.in-Value.extra) ((case_value c.in-Value.is c.first.ensures))) in omega arith
+overflow_add-i-in-loop-i-2 c = let b = (extra_few c.loop-i.invariant c.loop-i-test.true c.requires (c.in-Value.c) (c.in-Value.extra)
+    ((case_value c.in-Value.is c.first.ensures))) in omega arith
 
 pub loop-i-smaller : goal.loop-i-smaller
-loop-i-smaller c = let b = (extra_few c.loop-i.invariant c.loop-i-test.true c.requires (c.in-Value.c) (c.in-Value.extra) ((case_value c.in-Value.is c.first.ensures))) in omega arith
+loop-i-smaller c = let b = (extra_few c.loop-i.invariant c.loop-i-test.true c.requires (c.in-Value.c) (c.in-Value.extra)
+    ((case_value c.in-Value.is c.first.ensures))) in omega arith
 
 pub loop-i-preserved : goal.loop-i-preserved
 loop-i-preserved c =
-    decoding_next c.loop-i.invariant c.loop-i-test.true c.requires (c.in-Value.c) (c.in-Value.extra) ((case_value c.in-Value.is c.first.ensures))
+    decoding_next c.loop-i.invariant c.loop-i-test.true c.requires (c.in-Value.c) (c.in-Value.extra)
+    ((case_value c.in-Value.is c.first.ensures))
 
 pub shape_of-chars : goal.shape_of-chars
 shape_of-chars c = c.loop-i.invariant.same

@@ -29,7 +29,8 @@ pub returns-then-a-lt128 : goal.returns-then-a-lt128
 returns-then-a-lt128 c = first_one (lead c.before.before.before.before) (rest c.before.before.before.before) c.if-a-lt128.true
 
 pub returns-then-a-lt192 : goal.returns-then-a-lt192
-returns-then-a-lt192 c = first_tail (lead c.before.before.before.before.before) (rest c.before.before.before.before.before) c.if-a-lt128.false c.if-a-lt192.true
+returns-then-a-lt192 c = first_tail (lead c.before.before.before.before.before) (rest c.before.before.before.before.before)
+    c.if-a-lt128.false c.if-a-lt192.true
 
 pub overflow_add-at : goal.overflow_add-at
 overflow_add-at c = search rules
@@ -39,7 +40,9 @@ two-requires c = search rules
 
 pub returns-then-a-lt224 : goal.returns-then-a-lt224
 returns-then-a-lt224 c =
-    c.two.ensures ∙ rw (add-one c.args.at) (first_two (lead c.before.before.before.before.before.before.before) (rest c.before.before.before.before.before.before.before) c.if-a-lt192.false c.if-a-lt224.true)
+    c.two.ensures ∙ rw (add-one c.args.at)
+    (first_two (lead c.before.before.before.before.before.before.before) (rest c.before.before.before.before.before.before.before)
+    c.if-a-lt192.false c.if-a-lt224.true)
 
 pub overflow_add-at-then-a-lt240 : goal.overflow_add-at-then-a-lt240
 overflow_add-at-then-a-lt240 c = search rules
@@ -49,7 +52,9 @@ three-requires c = search rules
 
 pub returns-then-a-lt240 : goal.returns-then-a-lt240
 returns-then-a-lt240 c =
-    c.three.ensures ∙ rw (add-one c.args.at) (first_three (lead c.before.before.before.before.before.before.before.before) (rest c.before.before.before.before.before.before.before.before) c.if-a-lt224.false c.if-a-lt240.true)
+    c.three.ensures ∙ rw (add-one c.args.at)
+    (first_three (lead c.before.before.before.before.before.before.before.before)
+    (rest c.before.before.before.before.before.before.before.before) c.if-a-lt224.false c.if-a-lt240.true)
 
 pub overflow_add-at-then-a-lt248 : goal.overflow_add-at-then-a-lt248
 overflow_add-at-then-a-lt248 c = search rules
@@ -59,7 +64,9 @@ four-requires c = search rules
 
 pub returns-then-a-lt248 : goal.returns-then-a-lt248
 returns-then-a-lt248 c =
-    c.four.ensures ∙ rw (add-one c.args.at) (first_four (lead c.before.before.before.before.before.before.before.before.before) (rest c.before.before.before.before.before.before.before.before.before) c.if-a-lt240.false c.if-a-lt248.true)
+    c.four.ensures ∙ rw (add-one c.args.at) (first_four (lead c.before.before.before.before.before.before.before.before.before)
+    (rest c.before.before.before.before.before.before.before.before.before) c.if-a-lt240.false c.if-a-lt248.true)
 
 pub returns : goal.returns
-returns c = first_none (lead c.before.before.before.before.before.before.before.before) (rest c.before.before.before.before.before.before.before.before) c.if-a-lt248.false
+returns c = first_none (lead c.before.before.before.before.before.before.before.before)
+    (rest c.before.before.before.before.before.before.before.before) c.if-a-lt248.false

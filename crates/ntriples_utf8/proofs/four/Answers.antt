@@ -29,13 +29,15 @@ goes-on-3 : (k : (lts.Else4 tie.the-claims reads.Pre reads.Post)) → tail (byte
 goes-on-3 k = passed k.tail-3.ensures (ap not k.if-not-tail-3.false)
 
 -- so each has six bits
-first-bits : (k : (lts.Else2 tie.the-claims reads.Pre reads.Post)) → let a = k.args in (128 ≤ get_or a.bytes.now a.at 0) × (get_or a.bytes.now a.at 0 ≤ 191)
+first-bits : (k : (lts.Else2 tie.the-claims reads.Pre reads.Post)) → let a = k.args in (128 ≤ get_or a.bytes.now a.at 0) ×
+    (get_or a.bytes.now a.at 0 ≤ 191)
 first-bits k = let a = k.args in tail_bounds (get_or a.bytes.now a.at 0) (goes_on k)
 
 second-bits : (k : (lts.Else3 tie.the-claims reads.Pre reads.Post)) → (128 ≤ byte k.before.before 1) × (byte k.before.before 1 ≤ 191)
 second-bits k = tail_bounds (byte k.before.before 1) (goes-on-2 k)
 
-third-bits : (k : (lts.Else4 tie.the-claims reads.Pre reads.Post)) → (128 ≤ byte k.before.before.before.before 2) × (byte k.before.before.before.before 2 ≤ 191)
+third-bits : (k : (lts.Else4 tie.the-claims reads.Pre reads.Post)) → (128 ≤ byte k.before.before.before.before 2) ×
+    (byte k.before.before.before.before 2 ≤ 191)
 third-bits k = tail_bounds (byte k.before.before.before.before 2) (goes-on-3 k)
 
 pub overflow_sub-bytes : goal.overflow_sub-bytes
@@ -82,7 +84,8 @@ tail-requires-2 c = search rules
 pub returns-then-not-tail-2 : goal.returns-then-not-tail-2
 returns-then-not-tail-2 c =
     let a = c.args in
-    four_no_2 a.a a.bytes.now a.at c.if-bytes-at-lt3.false (goes_on c.before.before.before) (refused c.tail-2.ensures (ap not c.if-not-tail-2.true))
+    four_no_2 a.a a.bytes.now a.at c.if-bytes-at-lt3.false (goes_on c.before.before.before)
+    (refused c.tail-2.ensures (ap not c.if-not-tail-2.true))
 
 pub tail-requires-3 : goal.tail-requires-3
 tail-requires-3 c = search rules
@@ -90,7 +93,8 @@ tail-requires-3 c = search rules
 pub returns-then-not-tail-3 : goal.returns-then-not-tail-3
 returns-then-not-tail-3 c =
     let a = c.args in
-    four_no_3 a.a a.bytes.now a.at c.if-bytes-at-lt3.false (goes_on c.before.before.before.before.before) (goes-on-2 c.before.before.before)
+    four_no_3 a.a a.bytes.now a.at c.if-bytes-at-lt3.false (goes_on c.before.before.before.before.before)
+    (goes-on-2 c.before.before.before)
     (refused c.tail-3.ensures (ap not c.if-not-tail-3.true))
 
 pub overflow_mul-a : goal.overflow_mul-a
@@ -118,7 +122,13 @@ pub overflow_sub-d : goal.overflow_sub-d
 overflow_sub-d c = (third-bits c.before).0
 
 pub overflow_add-a-3 : goal.overflow_add-a-3
-overflow_add-a-3 c = omega (arith, first-bits c.before.before.before.before.before, second-bits c.before.before.before, third-bits c.before)
+overflow_add-a-3 c = omega (
+  arith,
+  first-bits c.before.before.before.before.before,
+  second-bits c.before.before.before,
+  third-bits
+      c.before,
+)
 
 pub fit-requires : goal.fit-requires
 fit-requires c = search rules
@@ -126,4 +136,5 @@ fit-requires c = search rules
 pub returns : goal.returns
 returns c =
     let a = c.args in
-    c.fit.ensures ∙ four_yes a.a a.bytes.now a.at c.if-bytes-at-lt3.false (goes_on c.before.before.before.before.before.before) (goes-on-2 c.before.before.before.before) (goes-on-3 c.before.before)
+    c.fit.ensures ∙ four_yes a.a a.bytes.now a.at c.if-bytes-at-lt3.false (goes_on c.before.before.before.before.before.before)
+    (goes-on-2 c.before.before.before.before) (goes-on-3 c.before.before)

@@ -76,7 +76,12 @@ overflow_sub-c c = let a = c.args in (tail_bounds (get_or a.bytes.now (a.at + 1)
 pub overflow_add-a-2 : goal.overflow_add-a-2
 overflow_add-a-2 c =
     let a = c.args in
-    omega (arith, tail_bounds (get_or a.bytes.now a.at 0) (goes_on c.before), tail_bounds (get_or a.bytes.now (a.at + 1) 0) (goes-on-2 c.before))
+    omega (
+      arith,
+      tail_bounds (get_or a.bytes.now a.at 0) (goes_on c.before),
+      tail_bounds (get_or a.bytes.now (a.at + 1) 0)
+          (goes-on-2 c.before),
+    )
 
 pub fit-requires : goal.fit-requires
 fit-requires c = search rules

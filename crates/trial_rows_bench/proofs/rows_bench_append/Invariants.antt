@@ -11,7 +11,8 @@ use Rattle.trial_rows_bench.proofs.rows_bench_append.Given as goal
 
 abbrev pub invariant-loop-k : goal.invariant-loop-k
 invariant-loop-k l =
-    Appended l.load l.k l.initial.store l.store l.hash l.n × (l.k ≤ l.count) × (length l.store ≡ length l.initial.store) × (length l.hash ≡ length l.initial.hash)
+    Appended l.load l.k l.initial.store l.store l.hash l.n × (l.k ≤ l.count) × (length l.store ≡ length l.initial.store) ×
+    (length l.hash ≡ length l.initial.hash)
 
 abbrev pub decreases-loop-k : goal.decreases-loop-k
 decreases-loop-k l = l.count - l.k

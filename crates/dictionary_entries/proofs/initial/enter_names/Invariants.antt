@@ -8,7 +8,8 @@ use Rattle.dictionary_entries.proofs.initial.enter_names.Given as goal
 
 abbrev pub invariant-loop-k : goal.invariant-loop-k
 invariant-loop-k l =
-    (Entering (contents l.table l.arena l.c) (get_or l.ids 0 0) l.namespace l.names l.ids l.from l.k) × (length l.table ≡ length l.initial.table)
+    (Entering (contents l.table l.arena l.c) (get_or l.ids 0 0) l.namespace l.names l.ids l.from l.k) ×
+    (length l.table ≡ length l.initial.table)
     × (length l.arena ≡ length l.initial.arena)
 
 abbrev pub decreases-loop-k : goal.decreases-loop-k

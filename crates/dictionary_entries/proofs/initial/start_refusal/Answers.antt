@@ -29,7 +29,13 @@ returns-then-table-lt-START_TABLE c =
     let args = c.args in
     refusal_7 args.table args.arena
     (sized← args.table args.arena
-    (record { low = c.if-table-lt-HEADS_WIDTH.false; whole = c.if-table-ne0.false; high = c.if-table-gt-TABLE_LIMIT.false; arena = c.if-arena-gt-ARENA_LIMIT.false }))
+    (record {
+      low = c.if-table-lt-HEADS_WIDTH.false;
+      whole = c.if-table-ne0.false;
+      high = c.if-table-gt-TABLE_LIMIT.false;
+      arena =
+          c.if-arena-gt-ARENA_LIMIT.false;
+    }))
     (λ s. omega (arith, (start_fits→ args.table args.arena s).0))
 
 pub returns-then-arena-lt-START_BYTES : goal.returns-then-arena-lt-START_BYTES
@@ -37,7 +43,13 @@ returns-then-arena-lt-START_BYTES c =
     let args = c.args in
     refusal_7 args.table args.arena
     (sized← args.table args.arena
-    (record { low = c.if-table-lt-HEADS_WIDTH.false; whole = c.if-table-ne0.false; high = c.if-table-gt-TABLE_LIMIT.false; arena = c.if-arena-gt-ARENA_LIMIT.false }))
+    (record {
+      low = c.if-table-lt-HEADS_WIDTH.false;
+      whole = c.if-table-ne0.false;
+      high = c.if-table-gt-TABLE_LIMIT.false;
+      arena =
+          c.if-arena-gt-ARENA_LIMIT.false;
+    }))
     (λ s. omega (arith, (start_fits→ args.table args.arena s).1))
 
 pub returns : goal.returns
@@ -45,5 +57,11 @@ returns c =
     let args = c.args in
     no_refusal args.table args.arena
     (sized← args.table args.arena
-    (record { low = c.if-table-lt-HEADS_WIDTH.false; whole = c.if-table-ne0.false; high = c.if-table-gt-TABLE_LIMIT.false; arena = c.if-arena-gt-ARENA_LIMIT.false }))
+    (record {
+      low = c.if-table-lt-HEADS_WIDTH.false;
+      whole = c.if-table-ne0.false;
+      high = c.if-table-gt-TABLE_LIMIT.false;
+      arena =
+          c.if-arena-gt-ARENA_LIMIT.false;
+    }))
     (start_fits← args.table args.arena c.if-table-lt-START_TABLE.false c.if-arena-lt-START_BYTES.false)

@@ -40,9 +40,12 @@ add_triple-requires c =
 
 pub overflow_add-next : goal.overflow_add-next
 overflow_add-next c =
-    omega (arith, added_few c.requires.0.rows
-    (adds c.args.load.now c.args.next.count (triple_of c.put_terms-ids.result.triple) c.add_triple.new.load c.if-add_triple.true
-    c.add_triple.ensures))
+    omega (
+      arith,
+      added_few c.requires.0.rows
+          (adds c.args.load.now c.args.next.count (triple_of c.put_terms-ids.result.triple) c.add_triple.new.load c.if-add_triple.true
+          c.add_triple.ensures),
+    )
 
 pub returns-then-add_triple : goal.returns-then-add_triple
 returns-then-add_triple c =

@@ -1,11 +1,8 @@
 -- `driver_write::rows::all_known` meets its contract. Assumes nothing.
 use mathlib.Core.Path.{sym}
-use Prim.Native.Nat.{ℕ, ◌-◌, ◌≤◌, ◌<◌}
 use native.Mathlib.Omega.{arith}
-use lib.Dec.{T}
 use Rattle.common.specs.Triples.{all}
 use Rattle.common.specs.Values.{triple_of}
-use Rattle.store_rows.specs.Rows.{row_at}
 use Rattle.dictionary_layout.proofs.Choice.{is_true, is_false, true→T, false→not_T}
 use Rattle.ntriples_utf8.proofs.Bytes.{refused, passed}
 use Rattle.ntriples_canonical.specs.Calls.{known}

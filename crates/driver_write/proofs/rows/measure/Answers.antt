@@ -1,14 +1,15 @@
 -- `driver_write::rows::measure` meets its contract. Assumes nothing.
-use mathlib.Core.Logic.{⊎_elim, inl, inr}
-use Prim.Native.Nat.{◌-◌, ◌/◌}
+use mathlib.Core.Logic.{inl, inr}
+use Prim.Native.Nat.{◌/◌}
 use native.Mathlib.Omega.{arith}
 use lib.ListN.{length}
 use Rattle.common.specs.Sizes.{store_width}
 use Rattle.common.specs.Values.{triple_of}
 use Rattle.dictionary_layout.specs.Values.{contents}
-use Rattle.driver_write.proofs.Measuring.{line_short, Measures, measures_none, measures_more, measures_all}
+use Rattle.driver_write.proofs.Measuring.{line_short, measures_none, measures_more, measures_all}
 use Rattle.driver_write.proofs.Texts.{row_ids}
 use Rattle.driver_write.proofs.rows.measure.Goals as goal
+use Rattle.driver_write.proofs.rows.measure.Goals.{then-k-eq0, else-k-eq0}
 
 pub loop-j-init : goal.loop-j-init
 loop-j-init c =
@@ -59,7 +60,10 @@ loop-j-preserved c =
     let short = line_short d c.requires.0.unbroken (triple_of c.row.result) ids in
     measures_more c.loop-j.invariant c.loop-j-test.true c.row.ensures c.line_length-k.ensures
     (omega (arith, short, c.line_length-k.ensures))
-    (⊎_elim (λ w. inl (w.0.taken, w.1)) (λ w. inr (w.0.left, w.1)) c.if-k-eq0.branch)
+    (elim c.if-k-eq0.branch [
+      | then-k-eq0 w ↦ inl (w.if-k-eq0.true, w.left-is)
+      | else-k-eq0 w ↦ inr (w.if-k-eq0.false, w.left-is)
+    ])
 
 pub returns : goal.returns
 returns c =

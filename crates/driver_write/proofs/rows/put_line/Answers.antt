@@ -1,7 +1,6 @@
 -- `rows::put_line` meets its contract. Assumes nothing.
-use Prim.Native.Nat.{◌+◌, ◌≤◌}
 use native.Mathlib.Omega.{arith}
-use lib.ListN.{length, length-set}
+use lib.ListN.{length-set}
 use Rattle.driver_write.proofs.Writing.{known→, subject_fits, subject_room, predicate_fits, predicate_room, predicate_same}
 use Rattle.driver_write.proofs.Writing.{object_fits, object_room, line_same, line_put}
 use Rattle.driver_write.proofs.rows.put_line.Goals as goal
@@ -17,7 +16,7 @@ bounds-page-n c =
 
 pub overflow_add-n : goal.overflow_add-n
 overflow_add-n c =
-    let g = c.good in
+    let g = c.well_formed in
     omega (arith, subject_room c.requires c.put_term-n.ensures, c.put_term-n.ensures.same)
 
 pub put_term-m-requires : goal.put_term-m-requires
@@ -31,7 +30,7 @@ bounds-page-m c =
 
 pub overflow_add-m : goal.overflow_add-m
 overflow_add-m c =
-    let g = c.good in
+    let g = c.well_formed in
     let e = predicate_same c.requires c.put_term-n.ensures c.put_term-m.ensures in
     omega (arith, predicate_room c.requires c.put_term-n.ensures c.put_term-m.ensures)
 
@@ -45,9 +44,10 @@ bounds-page-e c =
     omega (arith, object_room c.requires c.put_term-n.ensures c.put_term-m.ensures c.put_term-e.ensures)
 
 pub overflow_add-page : goal.overflow_add-page
-overflow_add-page c = let g = c.well_formed in omega (arith, (let f = c.requires in
-    let e = line_same f c.put_term-n.ensures c.put_term-m.ensures c.put_term-e.ensures in
-    omega (arith, object_room f c.put_term-n.ensures c.put_term-m.ensures c.put_term-e.ensures)))
+overflow_add-page c =
+    let g = c.well_formed in
+    let same = line_same c.requires c.put_term-n.ensures c.put_term-m.ensures c.put_term-e.ensures in
+    omega (arith, object_room c.requires c.put_term-n.ensures c.put_term-m.ensures c.put_term-e.ensures)
 
 pub bounds-page-e-2 : goal.bounds-page-e-2
 bounds-page-e-2 c =
@@ -55,9 +55,10 @@ bounds-page-e-2 c =
     simp length-set (omega arith)
 
 pub overflow_add-page-2 : goal.overflow_add-page-2
-overflow_add-page-2 c = let g = c.well_formed in omega (arith, (let f = c.requires in
-    let e = line_same f c.put_term-n.ensures c.put_term-m.ensures c.put_term-e.ensures in
-    omega (arith, object_room f c.put_term-n.ensures c.put_term-m.ensures c.put_term-e.ensures)))
+overflow_add-page-2 c =
+    let g = c.well_formed in
+    let same = line_same c.requires c.put_term-n.ensures c.put_term-m.ensures c.put_term-e.ensures in
+    omega (arith, object_room c.requires c.put_term-n.ensures c.put_term-m.ensures c.put_term-e.ensures)
 
 pub bounds-page-e-3 : goal.bounds-page-e-3
 bounds-page-e-3 c =
@@ -65,9 +66,10 @@ bounds-page-e-3 c =
     simp length-set (omega arith)
 
 pub overflow_add-result : goal.overflow_add-result
-overflow_add-result c = let g = c.well_formed in omega (arith, (let f = c.requires in
-    let e = line_same f c.put_term-n.ensures c.put_term-m.ensures c.put_term-e.ensures in
-    omega (arith, object_room f c.put_term-n.ensures c.put_term-m.ensures c.put_term-e.ensures)))
+overflow_add-result c =
+    let g = c.well_formed in
+    let same = line_same c.requires c.put_term-n.ensures c.put_term-m.ensures c.put_term-e.ensures in
+    omega (arith, object_room c.requires c.put_term-n.ensures c.put_term-m.ensures c.put_term-e.ensures)
 
 pub shape_of-page : goal.shape_of-page
 shape_of-page c =

@@ -1,12 +1,11 @@
 -- `rows::put_lines` meets its contract. Assumes nothing.
 use mathlib.Core.Path.{sym, ◌∙◌}
-use mathlib.Core.Logic.{⊎_elim}
-use Prim.Native.Nat.{◌-◌}
 use borrow.Author.Rules.{rules}
 use Rattle.dictionary_layout.specs.Values.{contents}
-use Rattle.driver_write.proofs.Texts.{Lining, lining_start, lining_as, row_there, row_known, line_fits, lining_line, lining_none}
+use Rattle.driver_write.proofs.Texts.{lining_start, lining_as, row_there, row_known, line_fits, lining_line, lining_none}
 use Rattle.driver_write.proofs.Texts.{lining_end}
 use Rattle.driver_write.proofs.rows.put_lines.Goals as goal
+use Rattle.driver_write.proofs.rows.put_lines.Goals.{then-line_length-ne0, else-line_length-ne0}
 
 pub loop-j-init : goal.loop-j-init
 loop-j-init c =
@@ -39,8 +38,10 @@ loop-j-preserved c =
     let l = c.loop-j.invariant in
     let h = c.loop-j-test.true in
     let e = c.row-t.ensures in
-    ⊎_elim (λ w. lining_as w.5 w.6 (lining_line f l h e w.2.ensures))
-    (λ w. lining_as w.1 w.2 (lining_none f l h e (sym c.line_length.ensures ∙ w.0.left))) c.if-line_length-ne0.branch
+    elim c.if-line_length-ne0.branch [
+      | then-line_length-ne0 w ↦ lining_as w.page-is w.at-is (lining_line f l h e w.put_line-at.ensures)
+      | else-line_length-ne0 w ↦ lining_as w.page-is w.at-is (lining_none f l h e (sym c.line_length.ensures ∙ w.if-line_length-ne0.false))
+    ]
 
 pub shape_of-page : goal.shape_of-page
 shape_of-page c = c.loop-j.invariant.wrote.same

@@ -1,10 +1,6 @@
-use mathlib.Core.Path.{sym, ◌∙◌}
-use mathlib.Core.Logic.{⊎_elim}
 use Prim.Native.Nat.{◌-◌}
-use borrow.Author.Rules.{rules}
 use Rattle.dictionary_layout.specs.Values.{contents}
-use Rattle.driver_write.proofs.Texts.{Lining, lining_start, lining_as, row_there, row_known, line_fits, lining_line, lining_none}
-use Rattle.driver_write.proofs.Texts.{lining_end}
+use Rattle.driver_write.proofs.Texts.{Lining}
 use Rattle.driver_write.proofs.rows.put_lines.Given as goal
 
 abbrev pub invariant-loop-j : goal.invariant-loop-j

@@ -1,8 +1,6 @@
 -- `driver_write::terms::put_term` meets its contract. Assumes nothing.
-use Prim.Native.Nat.{◌+◌}
 use native.Mathlib.Omega.{arith}
 use borrow.Author.Rules.{rules}
-use Rattle.dictionary_layout.specs.Layout.{entry_at}
 use Rattle.dictionary_layout.specs.Values.{contents}
 use Rattle.dictionary_entries.proofs.Reading.{entry_fits}
 use Rattle.driver_write.proofs.Entries.{entry_fits_page, entry_wrote}
@@ -25,10 +23,6 @@ bounds-table-e c =
     let d = contents c.args.table.now c.args.arena.now c.args.counters in
     omega (arith, (entry_fits d c.requires.0 c.args.id.0 c.requires.1).entry)
 
-pub overflow_cast-start : goal.overflow_cast-start
-overflow_cast-start c =
-    omega (arith, c.shared_slice_known-3-1.given (entry_at c.args.id.0))
-
 pub overflow_add-end : goal.overflow_add-end
 overflow_add-end c = search rules
 
@@ -39,15 +33,6 @@ pub bounds-table-e-2 : goal.bounds-table-e-2
 bounds-table-e-2 c =
     let d = contents c.args.table.now c.args.arena.now c.args.counters in
     omega (arith, (entry_fits d c.requires.0 c.args.id.0 c.requires.1).entry)
-
-pub overflow_cast-end : goal.overflow_cast-end
-overflow_cast-end c =
-    omega (arith, c.shared_slice_known-4-1.given (entry_at c.args.id.0 + 1))
-
-pub overflow_add-end-2 : goal.overflow_add-end-2
-overflow_add-end-2 c =
-    let at = entry_at c.args.id.0 in
-    omega (arith, c.shared_slice_known-3-1.given at, c.shared_slice_known-4-1.given (at + 1))
 
 pub overflow_add-e-2 : goal.overflow_add-e-2
 overflow_add-e-2 c = search rules

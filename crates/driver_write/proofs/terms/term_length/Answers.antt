@@ -1,8 +1,6 @@
 -- `driver_write::terms::term_length` meets its contract. Assumes nothing.
-use Prim.Native.Nat.{◌+◌}
 use native.Mathlib.Omega.{arith}
 use borrow.Author.Rules.{rules}
-use Rattle.dictionary_layout.specs.Layout.{entry_at}
 use Rattle.dictionary_layout.specs.Values.{contents}
 use Rattle.dictionary_entries.proofs.Reading.{entry_fits}
 use Rattle.driver_write.proofs.Entries.{entry_measurable, entry_length}
@@ -22,10 +20,6 @@ bounds-table-at c =
     let d = contents c.args.table.now c.args.arena.now c.args.counters in
     omega (arith, (entry_fits d c.requires.0 c.args.id c.requires.1).entry)
 
-pub overflow_cast-start : goal.overflow_cast-start
-overflow_cast-start c =
-    omega (arith, c.shared_slice_known-3-1.given (entry_at c.args.id))
-
 pub overflow_add-end : goal.overflow_add-end
 overflow_add-end c = search rules
 
@@ -36,15 +30,6 @@ pub bounds-table-at-2 : goal.bounds-table-at-2
 bounds-table-at-2 c =
     let d = contents c.args.table.now c.args.arena.now c.args.counters in
     omega (arith, (entry_fits d c.requires.0 c.args.id c.requires.1).entry)
-
-pub overflow_cast-end : goal.overflow_cast-end
-overflow_cast-end c =
-    omega (arith, c.shared_slice_known-4-1.given (entry_at c.args.id + 1))
-
-pub overflow_add-end-2 : goal.overflow_add-end-2
-overflow_add-end-2 c =
-    let at = entry_at c.args.id in
-    omega (arith, c.shared_slice_known-3-1.given at, c.shared_slice_known-4-1.given (at + 1))
 
 pub overflow_add-at-2 : goal.overflow_add-at-2
 overflow_add-at-2 c = search rules

@@ -1,10 +1,10 @@
 -- `driver_write::terms::term_lengths` meets its contract. Assumes nothing.
-use mathlib.Core.Path.{◌≡◌, refl, ◌∙◌}
-use Prim.Native.Nat.{◌-◌, ◌≤◌, ◌<◌}
+use mathlib.Core.Path.{refl, ◌∙◌}
+use Prim.Native.Nat.{◌<◌}
 use native.Mathlib.Omega.{arith}
 use borrow.Author.Rules.{rules}
 use lib.ListN.{length}
-use Rattle.common.proofs.Filling.{Filled, fill_start, fill_more}
+use Rattle.common.proofs.Filling.{fill_start, fill_more}
 use Rattle.dictionary_layout.specs.Layout.{decode}
 use Rattle.dictionary_layout.specs.Dictionary.{term_of}
 use Rattle.dictionary_layout.specs.Values.{contents}

@@ -1,15 +1,11 @@
-use mathlib.Core.Path.{◌≡◌, refl, ◌∙◌}
-use Prim.Native.Nat.{◌-◌, ◌≤◌, ◌<◌}
-use native.Mathlib.Omega.{arith}
-use borrow.Author.Rules.{rules}
+use mathlib.Core.Path.{◌≡◌}
+use Prim.Native.Nat.{◌-◌, ◌≤◌}
 use lib.ListN.{length}
-use Rattle.common.proofs.Filling.{Filled, fill_start, fill_more}
+use Rattle.common.proofs.Filling.{Filled}
 use Rattle.dictionary_layout.specs.Layout.{decode}
 use Rattle.dictionary_layout.specs.Dictionary.{term_of}
 use Rattle.dictionary_layout.specs.Values.{contents}
-use Rattle.dictionary_entries.proofs.Reading.{count}
 use Rattle.ntriples_text.specs.Promises.{text_length}
-use Rattle.driver_write.proofs.Entries.{length_short, lengths_written}
 use Rattle.driver_write.proofs.terms.term_lengths.Given as goal
 
 abbrev pub invariant-loop-i : goal.invariant-loop-i

@@ -105,9 +105,11 @@ enum_told-in_default-number-3 c = search rules
 
 pub returns-in_default-number-3 : goal.returns-in_default-number-3
 returns-in_default-number-3 c =
-    sym (third_bad ((case_two c.in-Two.is c.two_spaces.ensures)) ((case_number c.in-Number.is c.number.ensures)) ((case_number c.in-Number-number.is c.number-2.ensures))
+    sym (third_bad ((case_two c.in-Two.is c.two_spaces.ensures)) ((case_number c.in-Number.is c.number.ensures))
+    ((case_number c.in-Number-number.is c.number-2.ensures))
     (case_none c.in_default-number-3.is c.number-3.ensures))
 
 pub returns : goal.returns
 returns c =
-    sym (all_good ((case_two c.in-Two.is c.two_spaces.ensures)) ((case_number c.in-Number.is c.number.ensures)) ((case_number c.in-Number-number.is c.number-2.ensures)) ((case_number c.in-Number-number-2.is c.number-3.ensures)))
+    sym (all_good ((case_two c.in-Two.is c.two_spaces.ensures)) ((case_number c.in-Number.is c.number.ensures))
+    ((case_number c.in-Number-number.is c.number-2.ensures)) ((case_number c.in-Number-number-2.is c.number-3.ensures)))

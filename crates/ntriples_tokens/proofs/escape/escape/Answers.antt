@@ -43,7 +43,8 @@ uchar-requires-then-c-eq85 c = search rules
 pub returns-then-c-eq85 : goal.returns-then-c-eq85
 returns-then-c-eq85 c =
     let a = c.args in
-    escape_eight (letters a.iri) a.chars.now a.at (there c.before.before.before.before.before) c.if-c-eq117.false c.if-c-eq85.true c.uchar-then-c-eq85.ensures
+    escape_eight (letters a.iri) a.chars.now a.at (there c.before.before.before.before.before) c.if-c-eq117.false c.if-c-eq85.true
+    c.uchar-then-c-eq85.ensures
 
 pub returns-then-iri : goal.returns-then-iri
 returns-then-iri c =
@@ -57,11 +58,13 @@ echar-d-requires c = search rules
 pub returns-then-d-eq0 : goal.returns-then-d-eq0
 returns-then-d-eq0 c =
     let a = c.args in
-    escape_none (letters a.iri) a.chars.now a.at (there c.before.before.before.before.before.before.before) c.if-c-eq117.false c.if-c-eq85.false
+    escape_none (letters a.iri) a.chars.now a.at (there c.before.before.before.before.before.before.before) c.if-c-eq117.false
+    c.if-c-eq85.false
     (no_letter (get_or a.chars.now a.at 0) c.if-iri.false c.echar-d.ensures c.if-d-eq0.true)
 
 pub returns : goal.returns
 returns c =
     let a = c.args in
-    escape_letter (letters a.iri) a.chars.now a.at (there c.before.before.before.before.before.before.before) c.if-c-eq117.false c.if-c-eq85.false
+    escape_letter (letters a.iri) a.chars.now a.at (there c.before.before.before.before.before.before.before) c.if-c-eq117.false
+    c.if-c-eq85.false
     (one_letter (get_or a.chars.now a.at 0) c.if-iri.false c.echar-d.ensures c.if-d-eq0.false)

@@ -98,7 +98,8 @@ returns-then-c-ge16 c =
 pub returns-then-d-ge16 : goal.returns-then-d-ge16
 returns-then-d-ge16 c =
     let a = c.args in
-    four_stop_4 a.chars.now a.at a.v c.if-chars-at-lt4.false (first c.before.before.before.before) (second c.before.before.before) (third c.before.before)
+    four_stop_4 a.chars.now a.at a.v c.if-chars-at-lt4.false (first c.before.before.before.before) (second c.before.before.before)
+    (third c.before.before)
     (digit_none c.hex-d.ensures c.if-d-ge16.true)
 
 pub overflow_mul-result : goal.overflow_mul-result
@@ -128,5 +129,6 @@ overflow_add-result-4 c = search rules
 pub returns : goal.returns
 returns c =
     let a = c.args in
-    four_digits a.chars.now a.at a.v c.if-chars-at-lt4.false (first c.before.before.before.before) (second c.before.before.before) (third c.before.before)
+    four_digits a.chars.now a.at a.v c.if-chars-at-lt4.false (first c.before.before.before.before) (second c.before.before.before)
+    (third c.before.before)
     (digit_some c.hex-d.ensures c.if-d-ge16.false)

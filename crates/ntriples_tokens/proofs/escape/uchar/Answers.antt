@@ -58,7 +58,8 @@ fit-requires c = search rules
 pub returns-then-eight : goal.returns-then-eight
 returns-then-eight c =
     let a = c.args in
-    c.fit.ensures ∙ uchar_eight a.chars.now a.at c.if-eight.true ((case_number c.in-Number.is c.four_hexes.ensures)) ((case_number c.in-Number-four_hexes.is c.four_hexes-then-eight.ensures))
+    c.fit.ensures ∙ uchar_eight a.chars.now a.at c.if-eight.true ((case_number c.in-Number.is c.four_hexes.ensures))
+    ((case_number c.in-Number-four_hexes.is c.four_hexes-then-eight.ensures))
 
 pub fit-requires-2 : goal.fit-requires-2
 fit-requires-2 c = search rules

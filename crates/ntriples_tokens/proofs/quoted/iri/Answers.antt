@@ -41,7 +41,7 @@ loop-i-preserved c =
     let bytes = c.args.bytes.now in
     let e = passed c.raw.ensures (ap not c.if-not-raw.false) in
     elim c.if-c-eq58.branch [
-      then-c-eq58 w ↦ subst (λ b. Testing bytes b (c.loop-i.i + 1)) (sym w.colon-is) (testing_colon t h e w.if-c-eq58.true)
+      | then-c-eq58 w ↦ subst (λ b. Testing bytes b (c.loop-i.i + 1)) (sym w.colon-is) (testing_colon t h e w.if-c-eq58.true)
       | else-c-eq58 w ↦ subst (λ b. Testing bytes b (c.loop-i.i + 1)) (sym w.colon-is) (testing_step t h e w.if-c-eq58.false)
     ]
 

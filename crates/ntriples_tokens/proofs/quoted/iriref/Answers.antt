@@ -43,7 +43,8 @@ shape_of-out-in_default c = search rules
 pub returns-in_default : goal.returns-in_default
 returns-in_default c =
     iriref_bad ((let pre = c.requires in
-    opens_with iriref_opens c.args.chars.now c.args.at (omega arith) c.if-chars-at-ne60.false)) (parses_as c.in_default.is c.quoted.ensures)
+    opens_with iriref_opens c.args.chars.now c.args.at (omega arith) c.if-chars-at-ne60.false))
+    (parses_as c.in_default.is c.quoted.ensures)
 
 pub slice_bounds-iri-count : goal.slice_bounds-iri-count
 slice_bounds-iri-count c =
@@ -70,7 +71,8 @@ pub returns-then-iri : goal.returns-then-iri
 returns-then-iri c =
     let q = parses_as c.in-At.is c.quoted.ensures in
     iriref_yes ((let pre = c.requires in
-    opens_with iriref_opens c.args.chars.now c.args.at (omega arith) c.if-chars-at-ne60.false)) q c.requires (sym c.if-iri.true ∙ c.iri.ensures)
+    opens_with iriref_opens c.args.chars.now c.args.at (omega arith) c.if-chars-at-ne60.false)) q c.requires
+    (sym c.if-iri.true ∙ c.iri.ensures)
 
 pub shape_of-out : goal.shape_of-out
 shape_of-out c = search rules
@@ -79,4 +81,5 @@ pub returns : goal.returns
 returns c =
     let q = parses_as c.in-At.is c.quoted.ensures in
     iriref_no ((let pre = c.requires in
-    opens_with iriref_opens c.args.chars.now c.args.at (omega arith) c.if-chars-at-ne60.false)) q c.requires (sym c.if-iri.false ∙ c.iri.ensures)
+    opens_with iriref_opens c.args.chars.now c.args.at (omega arith) c.if-chars-at-ne60.false)) q c.requires
+    (sym c.if-iri.false ∙ c.iri.ensures)

@@ -17,7 +17,7 @@ pub loop-i-init : goal.loop-i-init
 loop-i-init c =
     quoting_start c.args.iri
     (elim c.if-iri.branch [
-      then-iri w ↦ w.stop-is ∙ ap stop-of (sym w.if-iri.true)
+      | then-iri w ↦ w.stop-is ∙ ap stop-of (sym w.if-iri.true)
       | else-iri w ↦ w.stop-is ∙ ap stop-of (sym w.if-iri.false)
     ]) c.requires
 
@@ -55,13 +55,19 @@ returns-in_default c =
     (case_bad c.in_default.is c.character.ensures)
 
 pub put_scalar-n-requires : goal.put_scalar-n-requires
-put_scalar-n-requires c = let f = (quoting_fits c.loop-i.invariant c.loop-i-test.true c.if-chars-i.false ((case_value c.in-Value.is c.character.ensures)) c.requires) in (f.scalar, f.room)
+put_scalar-n-requires c = let f =
+    (quoting_fits c.loop-i.invariant c.loop-i-test.true c.if-chars-i.false ((case_value c.in-Value.is c.character.ensures)) c.requires) in
+    (f.scalar, f.room)
 
 pub overflow_add-i : goal.overflow_add-i
-overflow_add-i c = let f = (quoting_fits c.loop-i.invariant c.loop-i-test.true c.if-chars-i.false ((case_value c.in-Value.is c.character.ensures)) c.requires) in omega arith
+overflow_add-i c = let f =
+    (quoting_fits c.loop-i.invariant c.loop-i-test.true c.if-chars-i.false ((case_value c.in-Value.is c.character.ensures)) c.requires) in
+    omega arith
 
 pub overflow_add-i-in-loop-i : goal.overflow_add-i-in-loop-i
-overflow_add-i-in-loop-i c = let f = (quoting_fits c.loop-i.invariant c.loop-i-test.true c.if-chars-i.false ((case_value c.in-Value.is c.character.ensures)) c.requires) in omega arith
+overflow_add-i-in-loop-i c = let f =
+    (quoting_fits c.loop-i.invariant c.loop-i-test.true c.if-chars-i.false ((case_value c.in-Value.is c.character.ensures)) c.requires) in
+    omega arith
 
 pub loop-i-smaller : goal.loop-i-smaller
 loop-i-smaller c = search rules

@@ -1,0 +1,23 @@
+-- `close_read` meets its contract: so many bytes decide as much as the whole input. Assumes nothing.
+use mathlib.Core.Path.{◌≡◌}
+use native.Mathlib.Omega.{arith}
+use lib.ListN.{length}
+use Rattle.edge_closer_text.specs.Sizes.{input_length}
+use Rattle.edge_closer_run.proofs.Printing.{output_read}
+use borrow.Author.Rules.{rules}
+use Rattle.edge_closer_run.proofs.close_read.Goals as goal
+
+pub close_first-requires : goal.close_first-requires
+close_first-requires c = search rules
+
+pub shape_of-out : goal.shape_of-out
+shape_of-out c = search rules
+
+pub returns : goal.returns
+returns c =
+    let args = c.args in
+    let long : length args.read.now ≡ input_length = omega arith in
+    record {
+      wrote = c.close_first.ensures;
+      whole = λ text e. output_read args.read.now args.n text long e;
+    }
