@@ -1,0 +1,44 @@
+-- `edge_c::tablestork_run` meets its contract. Assumes nothing.
+use mathlib.Core.Path.{sym}
+use Prim.Native.Nat.{ℕ}
+use lib.ListN.{length-replicate}
+use Rattle.common.specs.Sizes.{table_limit}
+use Rattle.edge_c.specs.Forwarded.{longest_store, longest_findings, longest_work, load_array}
+use Rattle.edge_c.proofs.Forwarding.{arrays}
+use Rattle.edge_c.proofs.tablestork_run.Goals as goal
+
+pub slice_bounds-run_in-end : goal.slice_bounds-run_in-end
+slice_bounds-run_in-end c = sym (length-replicate {A = ℕ} table_limit 0)
+
+pub slice_bounds-run_in-end-2 : goal.slice_bounds-run_in-end-2
+slice_bounds-run_in-end-2 c = sym (length-replicate {A = ℕ} load_array 0)
+
+pub slice_bounds-run_in-end-3 : goal.slice_bounds-run_in-end-3
+slice_bounds-run_in-end-3 c = sym (length-replicate {A = ℕ} longest_store 0)
+
+pub slice_bounds-run_in-end-4 : goal.slice_bounds-run_in-end-4
+slice_bounds-run_in-end-4 c = sym (length-replicate {A = ℕ} longest_findings 0)
+
+pub slice_bounds-run_in-end-5 : goal.slice_bounds-run_in-end-5
+slice_bounds-run_in-end-5 c = sym (length-replicate {A = ℕ} longest_work 0)
+
+pub run_in-next-requires : goal.run_in-next-requires
+run_in-next-requires c = arrays
+
+pub shape_of-table : goal.shape_of-table
+shape_of-table c = c.run_in-next.auto.table
+
+pub shape_of-arena : goal.shape_of-arena
+shape_of-arena c = c.run_in-next.auto.arena
+
+pub shape_of-store : goal.shape_of-store
+shape_of-store c = c.run_in-next.auto.store
+
+pub shape_of-findings : goal.shape_of-findings
+shape_of-findings c = c.run_in-next.auto.findings
+
+pub shape_of-work : goal.shape_of-work
+shape_of-work c = c.run_in-next.auto.work
+
+pub returns : goal.returns
+returns c = c.run_in-next.ensures
