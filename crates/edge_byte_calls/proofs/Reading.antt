@@ -44,7 +44,8 @@ occurs : {tl al : ℕ} {ts : List Term} (cs : List Call) → Holds tl al ts → 
     → Occurs tl al ts cs e
 unfolding byte_events_of events_of terms_after
 occurs [] h e i = absurd (in_nil i)
-occurs {tl} {al} {ts} (c ∷ cs) h e i = go (in_cons i) (occurs cs (abstract_holds tl al ts (read_call c) h) e)
+occurs {tl} {al} {ts} (c ∷ cs) h e i = go (in_cons i)
+    (occurs {ts = (abstract_call tl al ts (read_call c)).held} cs (abstract_holds tl al ts (read_call c) h) e)
   where
     us : List Term
     us = (abstract_call tl al ts (read_call c)).held

@@ -1,5 +1,4 @@
 -- `trial_replay::calls::answer` meets its contract. Assumes nothing.
-use borrow.Author.Rules.{rules}
 use Rattle.trial_replay.proofs.calls.answer.Goals as goal
 
 pub returns : goal.returns

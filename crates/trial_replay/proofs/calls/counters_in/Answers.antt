@@ -1,5 +1,4 @@
 -- `trial_replay::calls::counters_in` meets its contract. Assumes nothing.
-use borrow.Author.Rules.{rules}
 use Rattle.trial_replay.proofs.calls.counters_in.Goals as goal
 
 pub returns : goal.returns

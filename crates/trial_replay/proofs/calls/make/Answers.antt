@@ -1,5 +1,4 @@
 -- `trial_replay::calls::make` meets its contract. Assumes nothing.
-use borrow.Author.Rules.{rules}
 use Prim.Native.Nat.{ℕ}
 use mathlib.Core.Path.{◌∙◌}
 use lib.ListN.{length-replicate}

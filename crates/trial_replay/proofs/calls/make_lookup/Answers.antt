@@ -1,5 +1,4 @@
 -- `trial_replay::calls::make_lookup` meets its contract. Assumes nothing.
-use borrow.Author.Rules.{rules}
 use Rattle.trial_replay.proofs.Making.{lookup_is}
 use Rattle.trial_replay.proofs.calls.make_lookup.Goals as goal
 

@@ -1,5 +1,4 @@
 -- `trial_replay::calls::make_on` meets its contract. Assumes nothing.
-use borrow.Author.Rules.{rules}
 use mathlib.Core.Path.{refl}
 use Rattle.trial_replay.specs.Made.{held}
 use Rattle.trial_replay.proofs.Making.{on_start, on_put, on_lookup, on_run, on_read, on_write, on_none}

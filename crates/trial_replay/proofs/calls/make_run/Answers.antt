@@ -1,5 +1,4 @@
 -- `trial_replay::calls::make_run` meets its contract. Assumes nothing.
-use borrow.Author.Rules.{rules}
 use Prim.Native.Nat.{ℕ}
 use lib.ListN.{length-replicate}
 use Rattle.trial_replay.specs.Cells.{store_room, findings_room, work_room}

@@ -1,5 +1,4 @@
 -- `trial_replay::calls::make_start` meets its contract. Assumes nothing.
-use borrow.Author.Rules.{rules}
 use Rattle.trial_replay.proofs.Making.{start_is}
 use Rattle.trial_replay.proofs.calls.make_start.Goals as goal
 

@@ -1,5 +1,4 @@
 -- `trial_replay::calls::narrow` meets its contract. Assumes nothing.
-use borrow.Author.Rules.{rules}
 use Rattle.trial_replay.proofs.Making.{narrow_fits, narrow_not}
 use Rattle.trial_replay.proofs.calls.narrow.Goals as goal
 

@@ -2,7 +2,6 @@
 use mathlib.Core.Path.{sym}
 use native.Mathlib.Omega.{arith}
 use lib.Seq.{length-take-le}
-use borrow.Author.Rules.{rules}
 use Rattle.trial_replay.proofs.Making.{put_is}
 use Rattle.trial_replay.proofs.calls.put_term.Goals as goal
 

@@ -1,5 +1,4 @@
 -- `trial_replay::calls::read_file` meets its contract. Assumes nothing.
-use borrow.Author.Rules.{rules}
 use Rattle.trial_replay.proofs.Making.{read_is}
 use Rattle.trial_replay.proofs.calls.read_file.Goals as goal
 

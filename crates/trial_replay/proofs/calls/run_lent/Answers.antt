@@ -2,7 +2,6 @@
 use mathlib.Core.Path.{sym}
 use native.Mathlib.Omega.{arith}
 use lib.Seq.{length-take-le}
-use borrow.Author.Rules.{rules}
 use Rattle.driver_refusals.specs.Lent.{lent}
 use Rattle.trial_replay.specs.Made.{held}
 use Rattle.trial_replay.proofs.Making.{run_lent_is}

@@ -1,5 +1,4 @@
 -- `trial_replay::calls::run_load` meets its contract. Assumes nothing.
-use borrow.Author.Rules.{rules}
 use Rattle.driver_refusals.specs.Lent.{lent}
 use Rattle.trial_replay.specs.Made.{held}
 use Rattle.trial_replay.proofs.Making.{as_whole, as_turn}

@@ -1,5 +1,4 @@
 -- `trial_replay::calls::run_turn` meets its contract. Assumes nothing.
-use borrow.Author.Rules.{rules}
 use Rattle.driver_refusals.specs.Lent.{lent}
 use Rattle.trial_replay.proofs.Making.{turn_is}
 use Rattle.trial_replay.proofs.calls.run_turn.Goals as goal

@@ -1,5 +1,4 @@
 -- `trial_replay::calls::run_whole` meets its contract. Assumes nothing.
-use borrow.Author.Rules.{rules}
 use Rattle.driver_refusals.specs.Lent.{lent}
 use Rattle.trial_replay.proofs.Making.{whole_is}
 use Rattle.trial_replay.proofs.calls.run_whole.Goals as goal

@@ -1,5 +1,4 @@
 -- `trial_replay::calls::turn` meets its contract. Assumes nothing.
-use borrow.Author.Rules.{rules}
 use Rattle.dictionary_layout.specs.Values.{contents}
 use Rattle.driver_refusals.specs.Lent.{lent}
 use Rattle.trial_replay.proofs.Making.{as_pass, as_open}

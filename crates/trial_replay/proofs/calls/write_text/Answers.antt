@@ -1,5 +1,4 @@
 -- `trial_replay::calls::write_text` meets its contract. Assumes nothing.
-use borrow.Author.Rules.{rules}
 use Rattle.trial_replay.proofs.Making.{write_is}
 use Rattle.trial_replay.proofs.calls.write_text.Goals as goal
 

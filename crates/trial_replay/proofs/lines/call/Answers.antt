@@ -1,5 +1,4 @@
 -- `trial_replay::lines::call` meets its contract. Assumes nothing.
-use borrow.Author.Rules.{rules}
 use Rattle.trial_replay.proofs.Reading.{call_is}
 use Rattle.trial_replay.proofs.lines.call.Goals as goal
 

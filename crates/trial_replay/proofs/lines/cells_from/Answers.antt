@@ -1,5 +1,4 @@
 -- `trial_replay::lines::cells_from` meets its contract. Assumes nothing.
-use borrow.Author.Rules.{rules}
 use native.Mathlib.Omega.{arith}
 use Rattle.trial_replay.proofs.Reading.{past_cells, few_cells, these_cells}
 use Rattle.trial_replay.proofs.lines.cells_from.Goals as goal

@@ -1,5 +1,4 @@
 -- `trial_replay::lines::edit` meets its contract. Assumes nothing.
-use borrow.Author.Rules.{rules}
 use Rattle.trial_replay.proofs.Reading.{writes_both, writes, fills_both, fills}
 use Rattle.trial_replay.proofs.lines.edit.Goals as goal
 

@@ -1,5 +1,4 @@
 -- `trial_replay::lines::fill_cells` meets its contract. Assumes nothing.
-use borrow.Author.Rules.{rules}
 use Rattle.trial_replay.proofs.Reading.{filled_is}
 use Rattle.trial_replay.proofs.lines.fill_cells.Goals as goal
 

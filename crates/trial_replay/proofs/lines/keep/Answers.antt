@@ -1,5 +1,4 @@
 -- `trial_replay::lines::keep` meets its contract. Assumes nothing.
-use borrow.Author.Rules.{rules}
 use mathlib.Core.Path.{refl}
 use Rattle.trial_replay.specs.Text.{memories}
 use Rattle.trial_replay.proofs.Making.{numbers_taken}

@@ -1,5 +1,4 @@
 -- `trial_replay::lines::play_line` meets its contract. Assumes nothing.
-use borrow.Author.Rules.{rules}
 use Rattle.trial_replay.specs.Text.{memories}
 use Rattle.trial_replay.proofs.Reading.{plays_edit, plays_call, plays_keep}
 use Rattle.trial_replay.proofs.lines.play_line.Goals as goal

@@ -1,5 +1,4 @@
 -- `trial_replay::lines::read_span` meets its contract. Assumes nothing.
-use borrow.Author.Rules.{rules}
 use Rattle.trial_replay.proofs.Reading.{span_is}
 use Rattle.trial_replay.proofs.lines.read_span.Goals as goal
 

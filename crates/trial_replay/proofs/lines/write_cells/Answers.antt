@@ -1,5 +1,4 @@
 -- `trial_replay::lines::write_cells` meets its contract. Assumes nothing.
-use borrow.Author.Rules.{rules}
 use Rattle.trial_replay.proofs.Reading.{written_is}
 use Rattle.trial_replay.proofs.lines.write_cells.Goals as goal
 
