@@ -7,3 +7,4 @@ pub mod Rows
 pub mod Last
 pub mod Widths
 pub mod Filling
+pub mod Refusals

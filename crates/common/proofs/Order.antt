@@ -5,8 +5,7 @@ use mathlib.Core.List.{List, [], ◌∷◌}
 use Prim.Native.Nat.{ℕ, suc, ◌+◌, ◌≤◌, suc-le-suc, Ordering}
 use native.Mathlib.Omega.{arith}
 use lib.ListN.{length}
-use Rattle.common.specs.Triples.{In, here, there, lex, key_triple, key_finding, Before, Ascending, Distinct, place, insert}
-use Rattle.common.specs.Triples.{insert_all}
+use Rattle.common.specs.Triples.{In, here, there, lex, key_triple, key_finding, Before, Ascending, Distinct, place, insert, insert_all}
 use Rattle.common.proofs.Lists.{in_nil, in_cons}
 use Rattle.common.proofs.Lex.{eq_lt, lex_eq, lex_gt, lex_same, lex_trans}
 

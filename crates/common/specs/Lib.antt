@@ -6,3 +6,4 @@ pub mod Rows
 pub mod Values
 pub mod Sizes
 pub mod Last
+pub mod Refusals

@@ -2,9 +2,13 @@
 // crate cites are in specs/ beside it, and the theorems about them in proofs/.
 #![tactic(auto)]
 
+mod refusal; // refusal.rt: why a call is refused
+
 ghost use Rattle.std.specs.Prelude.{◌≡◌};
 ghost use Rattle.common.specs.Vocabulary.{vocabulary};
 ghost use Rattle.common.specs.Rows.{cleared};
+
+pub use refusal::Refusal;
 
 // How many numbers a triple of a load has, a row of a store, a finding.
 pub const LOAD_WIDTH: usize = 3;
@@ -40,10 +44,10 @@ pub const RUN_TERMS: usize = 3;
 pub const WORK_WIDTH: usize = 2;
 
 // A term's id. A place in the list work buffer is another type, and so is a count.
-#[derive(Clone, Copy)]
+#[derive(Clone, Copy, PartialEq, Eq)]
 pub struct Id(pub u32);
 
-#[derive(Clone, Copy)]
+#[derive(Clone, Copy, PartialEq, Eq)]
 pub struct Triple {
     pub s: Id,
     pub p: Id,
@@ -51,7 +55,7 @@ pub struct Triple {
 }
 
 // A row of a store: a triple, the pass in which it came in, and the rule that brought it in; both 0 for a starting triple.
-#[derive(Clone, Copy)]
+#[derive(Clone, Copy, PartialEq, Eq)]
 pub struct Row {
     pub it: Triple,
     pub pass: u32,
@@ -163,12 +167,11 @@ pub fn vocabulary() -> [u32; 30]
 }
 
 // All numbers from place k on become 0.
+#[tactic(auto, unfolding(crate::specs::Rows::cleared))]
 pub fn clear_from(buf: &mut [u32], k: usize)
     ensures { buf.new ≡ cleared k buf.old }
 {
-    let mut i = k;
-    while i < buf.len() {
-        buf[i] = 0;
-        i += 1;
+    if k < buf.len() {
+        buf[k..].fill(0);
     }
 }

@@ -21,10 +21,6 @@ module _ (ds : List ℕ) where
   abbrev n : ℕ
   n = length ds
 
-  pub none_left : n ≡ 0 → false ≡ in_range ds
-  unfolding in_range
-  none_left h = sym (rw (eq-eqb n 0 h) refl)
-
   pub over_twenty : 20 < n → false ≡ in_range ds
   unfolding in_range
   over_twenty h = sym (rw (ne_eqb n 0 (λ e. omega arith), lt-ltb 20 n h) refl)

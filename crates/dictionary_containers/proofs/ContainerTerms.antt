@@ -5,31 +5,34 @@ use mathlib.Core.Bool.{Bool, true, false, ◌&&◌}
 use mathlib.Core.List.{List, [], ◌∷◌}
 use Prim.Native.Nat.{ℕ, ◌-◌, ◌≤◌, ◌<◌}
 use native.Mathlib.Omega.{arith}
-use native.Mathlib.Decide.{dec_lt}
+use native.Mathlib.Decide.{dec_lt, ℕ_discrete}
 use lib.Dec.{T, eqb, eqb→eq}
-use lib.ListN.{length, take, drop, length-take, get_or-eq_default}
+use lib.ListN.{length, take, drop, get_or-eq_default}
 use Rattle.dictionary_index.specs.declared.values.Located.{Located}
 use Rattle.common.specs.Triples.{if}
 use Rattle.dictionary_containers.specs.Containers.{prefix, starts_with, is_number, is_container_term}
 use Rattle.common.proofs.Lists.{and→, eq→eqb}
 use Rattle.dictionary_layout.specs.Terms.{Term, no_term}
 use Rattle.dictionary_layout.specs.Layout.{Dict, decode}
-use Rattle.dictionary_layout.specs.Dictionary.{same_row, LookupAnswer, term_of, abstract_lookup, valid}
+use Rattle.dictionary_layout.specs.Dictionary.{LookupAnswer, term_of, abstract_lookup, valid}
 use Rattle.dictionary_index.specs.Values.{Locates}
 use Rattle.dictionary_layout.proofs.Choice.{is_false, true→T, false→not_T}
-use Rattle.dictionary_layout.proofs.Rows.{lengths_differ}
+use borrow.Author.Tests.{eq-eqb, ne_eqb}
+use Rattle.std.specs.Cmp.Lexicographic.{pointwise}
 use Rattle.dictionary_layout.proofs.Reachable.{lookup_valid}
 use Rattle.dictionary_index.proofs.Looking.{abstract_lookup_12, abstract_lookup_known}
 
 -- a prefix is compared with as many bytes
-pub prefix_row : (p b : List ℕ) → same_row p (take (length p) b) ≡ starts_with p b
+pub prefix_row : (p b : List ℕ) → pointwise eqb (take (length p) b) p ≡ starts_with p b
 unfolding starts_with
 prefix_row [] b = refl
 prefix_row (a ∷ p) [] = refl
-prefix_row (a ∷ p) (c ∷ b) = ap (λ (x : Bool). if (eqb a c) (λ _. x) (λ _. false)) (prefix_row p b)
-
-pub prefix_short : (p b : List ℕ) → length b < length p → false ≡ starts_with p b
-prefix_short p b h = lengths_differ p (take (length p) b) (λ e. omega (arith, e, length-take (length p) b)) ∙ prefix_row p b
+prefix_row (a ∷ p) (c ∷ b) = go (ℕ_discrete a c) (prefix_row p b)
+  where
+    go : Dec (a ≡ c) → pointwise eqb (take (length p) b) p ≡ starts_with p b
+        → (eqb c a && pointwise eqb (take (length p) b) p) ≡ if (eqb a c) (λ _. starts_with p b) (λ _. false)
+    go (yes e) f = rw (eq-eqb c a (sym e), eq-eqb a c e) f
+    go (no n) f = rw (ne_eqb c a (λ e. n (sym e)), ne_eqb a c n) refl
 
 -- THE WHOLE TEST
 module _ (kind : ℕ) (bytes : List ℕ) where
@@ -56,14 +59,6 @@ module _ (kind : ℕ) (bytes : List ℕ) where
       go true true false x y = refl
       go true false c x y = absurd y
       go false b c x y = absurd x
-
-  -- at least as long as the prefix
-  pub container_long : true ≡ starts_with prefix bytes → 44 ≤ length bytes
-  container_long e = go (dec_lt (length bytes) 44)
-    where
-      go : Dec (length bytes < 44) → 44 ≤ length bytes
-      go (yes l) = absurd (false→not_T (starts_with prefix bytes) (prefix_short prefix bytes l) (true→T (starts_with prefix bytes) e))
-      go (no n) = omega arith
 
 -- THE TERM OF AN ID, by where it lies
 pub container_located : (d : Dict) → T (valid d) → (i : ℕ) (r : Located) → Locates r d i

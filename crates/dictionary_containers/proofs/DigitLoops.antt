@@ -1,14 +1,26 @@
 -- The loops of the test by digits: what is left of the bytes gives the same as the whole. Assumes nothing.
 use mathlib.Core.Path.{◌≡◌, refl, sym, ◌∙◌, ap}
 use mathlib.Core.Logic.{◌≢◌}
-use mathlib.Core.Bool.{true, false}
+use mathlib.Core.Bool.{Bool, true, false}
+use native.Mathlib.Omega.{arith}
+use Rattle.std.specs.Prelude.{IsTrue, ◌↔◌, EachIndex, Option, Some}
+use Rattle.std.specs.Char.{is_ascii_digit}
+use Rattle.std.specs.Cmp.Lexicographic.{slice_partial_cmp}
+use Rattle.std.specs.Ordering.{nat_cmp, is_some_and, is_le, partial_ordering_then, MatchOrdering}
+use Rattle.std.specs.declared.cmp.Ordering.{Ordering}
+use Rattle.std.specs.declared.cmp.Ordering.TheVariants.{Less, Equal, Greater}
+use Rattle.std.specs.Cmp.{nat_cmp_is}
+use native.Mathlib.Decide.{dec_lt}
+use lib.Dec.{T}
+use Rattle.common.specs.Triples.{if}
+use Rattle.dictionary_layout.proofs.Choice.{is_true, true→T, same_test, true_false}
 use mathlib.Core.List.{List, [], ◌∷◌}
-use Prim.Native.Nat.{ℕ, suc, ◌+◌, ◌≤◌, ◌<◌}
+use Prim.Native.Nat.{ℕ, zero, suc, ◌+◌, ◌≤◌, ◌<◌}
 use native.Mathlib.Numerals.{add-one}
 use lib.ListN.{length, get_or, drop, drop_of_length-le}
 use lib.Seq.{drop-cons}
-use borrow.Author.Tests.{le-leb, lt-leb, eq-eqb, ne_eqb}
-use Rattle.common.specs.Digits.{all_digits}
+use borrow.Author.Tests.{eq-eqb, ne_eqb}
+use Rattle.common.specs.Digits.{is_digit, all_digits}
 use Rattle.dictionary_containers.specs.ByDigits.{after_zeros, not_above}
 use Rattle.dictionary_containers.proofs.ByDigits.{smaller_first, larger_first, same_first}
 
@@ -17,9 +29,6 @@ pub record Left {A : Type 0} (f : List ℕ → A) (bs : List ℕ) (i : ℕ) : Ty
   pub same : f bs ≡ f (drop i bs)
 
 module _ {A : Type 0} {f : List ℕ → A} {bs : List ℕ} where
-  pub left_start : Left f bs 0
-  left_start = record { same = refl }
-
   left_end : {i : ℕ} → length bs ≤ i → Left f bs i → f bs ≡ f []
   left_end h k = k.same ∙ ap f (drop_of_length-le bs h)
 
@@ -28,24 +37,6 @@ module _ {A : Type 0} {f : List ℕ → A} {bs : List ℕ} where
 
   left_next : {i : ℕ} → i < length bs → Left f bs i → f (get_or bs i 0 ∷ drop (suc i) bs) ≡ f (drop (suc i) bs) → Left f bs (i + 1)
   left_next {i} h k e = rw (add-one i) (record { same = left_at h k ∙ e })
-
--- ALL DIGITS: a byte below the digits, one above them, a digit, the end
-module _ {bs : List ℕ} {i : ℕ} (h : i < length bs) (k : Left all_digits bs i) where
-  pub digit_low : get_or bs i 0 < 48 → false ≡ all_digits bs
-  unfolding all_digits
-  digit_low l = sym (left_at h k ∙ rw (lt-leb 48 (get_or bs i 0) l) refl)
-
-  pub digit_high : 48 ≤ get_or bs i 0 → 57 < get_or bs i 0 → false ≡ all_digits bs
-  unfolding all_digits
-  digit_high l u = sym (left_at h k ∙ rw (le-leb 48 (get_or bs i 0) l, lt-leb (get_or bs i 0) 57 u) refl)
-
-  pub digit_next : 48 ≤ get_or bs i 0 → get_or bs i 0 ≤ 57 → Left all_digits bs (i + 1)
-  unfolding all_digits
-  digit_next l u = left_next h k (rw (le-leb 48 (get_or bs i 0) l, le-leb (get_or bs i 0) 57 u) refl)
-
-pub digits_end : {bs : List ℕ} {i : ℕ} → length bs ≤ i → Left all_digits bs i → true ≡ all_digits bs
-unfolding all_digits
-digits_end h k = sym (left_end h k)
 
 -- LEADING ZEROS: a zero, the first other digit, the end
 module _ {bs : List ℕ} {i : ℕ} (h : i < length bs) (k : Left after_zeros bs i) where
@@ -57,32 +48,54 @@ module _ {bs : List ℕ} {i : ℕ} (h : i < length bs) (k : Left after_zeros bs 
   unfolding after_zeros
   zero_none n = drop-cons bs i 0 h ∙ sym (left_at h k ∙ rw (ne_eqb (get_or bs i 0) 48 n) refl)
 
-pub zeros_end : {bs : List ℕ} {i : ℕ} → length bs ≤ i → Left after_zeros bs i → drop i bs ≡ after_zeros bs
+pub zeros_end : {bs : List ℕ} {i : ℕ} → length bs ≤ i → Left after_zeros bs i → drop (length bs) bs ≡ after_zeros bs
 unfolding after_zeros
-zeros_end {bs} h k = drop_of_length-le bs h ∙ sym (left_end h k)
+zeros_end {bs} h k = drop_of_length-le bs (omega arith) ∙ sym (left_end h k)
 
--- COMPARED: from place i on two rows compare as the whole
-pub record Level (xs ys : List ℕ) (i : ℕ) : Type 0 where
-  pub same : not_above xs ys ≡ not_above (drop i xs) (drop i ys)
+-- ALL DIGITS, by each of them
+digits_at : (bs : List ℕ) → T (all_digits bs) → (k : ℕ) → k < length bs → is_ascii_digit (get_or bs k 0) ≡ true
+unfolding all_digits
+digits_at [] t k h = absurd (omega arith)
+digits_at (b ∷ bs) t k h = go (is_digit b) refl t k h (digits_at bs)
+  where
+    go : (c : Bool) → is_digit b ≡ c → T (if c (λ _. all_digits bs) (λ _. false)) → (k : ℕ) → k < length (b ∷ bs)
+        → (T (all_digits bs) → (j : ℕ) → j < length bs → is_ascii_digit (get_or bs j 0) ≡ true)
+        → is_ascii_digit (get_or (b ∷ bs) k 0) ≡ true
+    go false e t k h f = absurd t
+    go true e t zero h f = e
+    go true e t (suc k) h f = f t k (omega arith)
 
-pub level_start : {xs ys : List ℕ} → Level xs ys 0
-level_start = record { same = refl }
+digits_from : (bs : List ℕ) → ((k : ℕ) → k < length bs → is_ascii_digit (get_or bs k 0) ≡ true) → T (all_digits bs)
+unfolding all_digits
+digits_from [] f = tt
+digits_from (b ∷ bs) f = go (is_digit b) (f 0 (omega arith)) (digits_from bs (λ k h. f (suc k) (omega arith)))
+  where
+    go : (c : Bool) → c ≡ true → T (all_digits bs) → T (if c (λ _. all_digits bs) (λ _. false))
+    go true e t = t
+    go false e t = true_false (sym e)
 
-module _ {xs ys : List ℕ} {i : ℕ} (h : i < length xs) (g : i < length ys) (k : Level xs ys i) where
-  level_at : not_above xs ys ≡ not_above (get_or xs i 0 ∷ drop (suc i) xs) (get_or ys i 0 ∷ drop (suc i) ys)
-  level_at = k.same ∙ rw (drop-cons xs i 0 h, drop-cons ys i 0 g) refl
+pub digits_all : (bs : List ℕ) (r : Bool) → IsTrue r ↔ EachIndex bs (λ k. is_ascii_digit (get_or bs k 0) ≡ true) → r ≡ all_digits bs
+digits_all bs r e =
+    same_test r r (all_digits bs) refl (λ t. digits_from bs (e.0 (sym (is_true r t))))
+    (λ t. true→T r (sym (e.1 (digits_at bs t))))
 
-  pub digit_smaller : get_or xs i 0 < get_or ys i 0 → true ≡ not_above xs ys
-  digit_smaller l = sym (level_at ∙ smaller_first (get_or xs i 0) (get_or ys i 0) (drop (suc i) xs) (drop (suc i) ys) l)
-
-  pub digit_larger : get_or ys i 0 < get_or xs i 0 → false ≡ not_above xs ys
-  digit_larger l = sym (level_at ∙ larger_first (get_or xs i 0) (get_or ys i 0) (drop (suc i) xs) (drop (suc i) ys) l)
-
-  pub digit_same : get_or xs i 0 ≡ get_or ys i 0 → Level xs ys (i + 1)
-  digit_same e = rw (add-one i) (record {
-    same = level_at ∙ same_first (get_or xs i 0) (get_or ys i 0) (drop (suc i) xs) (drop (suc i) ys) e;
-  })
-
-pub level_end : {xs ys : List ℕ} {i : ℕ} → length xs ≤ i → Level xs ys i → true ≡ not_above xs ys
+-- COMPARED by `<=`
+pub rows_compare : (xs ys : List ℕ) → is_some_and is_le (slice_partial_cmp (λ x y. Some (nat_cmp x y)) xs ys) ≡ not_above xs ys
 unfolding not_above
-level_end {xs} h k = sym (k.same ∙ rw (drop_of_length-le xs h) refl)
+rows_compare [] [] = refl
+rows_compare [] (y ∷ ys) = refl
+rows_compare (x ∷ xs) [] = refl
+rows_compare (x ∷ xs) (y ∷ ys) = go (dec_lt x y) (dec_lt y x) (rows_compare xs ys)
+  where
+    rest : Option Ordering
+    rest = slice_partial_cmp (λ x y. Some (nat_cmp x y)) xs ys
+
+    by : (o : Ordering) → MatchOrdering o (x < y) (x ≡ y) (y < x) → is_some_and is_le (partial_ordering_then (Some (nat_cmp x y)) rest)
+        ≡ is_some_and is_le (partial_ordering_then (Some o) rest)
+    by o m = ap (λ (z : Ordering). is_some_and is_le (partial_ordering_then (Some z) rest)) (sym (nat_cmp_is x y o m))
+
+    go : Dec (x < y) → Dec (y < x) → is_some_and is_le rest ≡ not_above xs ys
+        → is_some_and is_le (partial_ordering_then (Some (nat_cmp x y)) rest) ≡ not_above (x ∷ xs) (y ∷ ys)
+    go (yes l) d e = by Less l ∙ sym (smaller_first x y xs ys l)
+    go (no m) (yes l) e = by Greater l ∙ sym (larger_first x y xs ys l)
+    go (no m) (no n) e = let q : x ≡ y = omega arith in by Equal q ∙ (e ∙ sym (same_first x y xs ys q))

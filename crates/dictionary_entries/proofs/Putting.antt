@@ -1,19 +1,18 @@
 -- What a put gives, case by case, where the contents are valid. Assumes nothing.
 use mathlib.Core.Path.{◌≡◌, sym, ◌∙◌, ap}
-use mathlib.Core.Option.{Option, some, none}
+use mathlib.Core.Option.{some, none}
 use mathlib.Core.List.{List, [], ◌∷◌, ◌++◌}
 use Prim.Native.Nat.{ℕ, suc, ◌+◌, ◌≤◌, ◌<◌}
 use native.Mathlib.Omega.{arith}
-use lib.Dec.{T, leb, ltb, leb→le, le→leb, ltb→lt, lt→ltb}
+use lib.Dec.{T, leb, leb→le, le→leb}
 use lib.ListN.{length}
 use Rattle.common.specs.Triples.{if}
-use Rattle.common.specs.Sizes.{term_limit}
 use Rattle.common.proofs.Lists.{and→, and←}
 use Rattle.dictionary_layout.specs.Terms.{Term}
 use Rattle.dictionary_layout.specs.Layout.{Dict, chain, size, layout, decode, entry_at}
 use Rattle.dictionary_layout.specs.Dictionary.{place_of, kind_known, short, roomy, PutAnswer, put_answer, put_at, abstract_put, valid}
 use Rattle.dictionary_layout.specs.Calls.{put_result, put_gives}
-use Rattle.dictionary_entries.specs.Entries.{id_below, Appendable}
+use Rattle.dictionary_entries.specs.Entries.{Appendable}
 use Rattle.dictionary_layout.proofs.Choice.{if_yes, if_no}
 use Rattle.dictionary_layout.proofs.Holding.{roomy→, valid→}
 use Rattle.dictionary_layout.proofs.Reachable.{put_valid}
@@ -60,17 +59,8 @@ module _ (tl al : ℕ) (ts : List Term) (t : Term) where
 pub kind_facts : (t : Term) → T (kind_known t) → (1 ≤ t.kind) × (t.kind ≤ 3)
 kind_facts t k = let (a, b) = and→ (leb 1 t.kind) (leb t.kind 3) k in (leb→le 1 t.kind a, leb→le t.kind 3 b)
 
-pub kind_low : (t : Term) → t.kind < 1 → T (kind_known t) → ⊥
-kind_low t h k = let q = (kind_facts t k).0 in omega arith
-
-pub kind_high : (t : Term) → 3 < t.kind → T (kind_known t) → ⊥
-kind_high t h k = let q = (kind_facts t k).1 in omega arith
-
 pub kind_in : (t : Term) → 1 ≤ t.kind → t.kind ≤ 3 → T (kind_known t)
 kind_in t a b = and← (leb 1 t.kind) (leb t.kind 3) (le→leb 1 t.kind a) (le→leb t.kind 3 b)
-
-pub too_long : (t : Term) → term_limit < length t.bytes → T (short t) → ⊥
-too_long t h s = let q = leb→le (length t.bytes) term_limit s in omega arith
 
 pub no_entry : (tl al : ℕ) (ts : List Term) (t : Term) → tl < entry_at (suc (length ts)) → T (roomy tl al ts t) → ⊥
 no_entry tl al ts t h r = let q = (roomy→ tl al ts t r).0 in omega arith
@@ -83,13 +73,6 @@ pub room_in : (tl al : ℕ) (ts : List Term) (t : Term) → entry_at (suc (lengt
 room_in tl al ts t a b =
     and← (leb (entry_at (suc (length ts))) tl) (leb (size ts + length t.bytes) al) (le→leb (entry_at (suc (length ts))) tl a)
     (le→leb (size ts + length t.bytes) al b)
-
--- a place found in the chain
-pub found_none : (i n : ℕ) (p : Option ℕ) → id_below i n ≡ p → n ≤ i → p ≡ none
-found_none i n p e h = sym e ∙ if_no (ltb i n) (λ _. some i) (λ _. none) (λ t. let q = ltb→lt i n t in omega arith)
-
-pub found_some : (i n : ℕ) (p : Option ℕ) → id_below i n ≡ p → i < n → p ≡ some i
-found_some i n p e h = sym e ∙ if_yes (ltb i n) (λ _. some i) (λ _. none) (lt→ltb i n h)
 
 -- THE SAME OVER CONTENTS
 module _ (d : Dict) (v : T (valid d)) (t : Term) where
@@ -113,14 +96,11 @@ module _ (d : Dict) (v : T (valid d)) (t : Term) where
     pub put_11 : (T (short t) → ⊥) → put_result 11 0 d ≡ put_gives d t
     put_11 n = unchanged 11 0 (abstract_put_11 tl al (decode d) t k n)
 
-    module _ (s : T (short t)) (i : ℕ) (e : id_below i d.terms ≡ place_of t (decode d)) where
-      pub put_held : i < d.terms → put_result 0 i d ≡ put_gives d t
-      put_held h = unchanged 0 i (abstract_put_held tl al (decode d) t k s i (found_some i d.terms (place_of t (decode d)) e h))
+    module _ (s : T (short t)) where
+      pub put_held : {i : ℕ} → place_of t (decode d) ≡ some i → put_result 0 i d ≡ put_gives d t
+      put_held {i} e = unchanged 0 i (abstract_put_held tl al (decode d) t k s i e)
 
-      module _ (h : d.terms ≤ i) where
-        absent : place_of t (decode d) ≡ none
-        absent = found_none i d.terms (place_of t (decode d)) e h
-
+      module _ (absent : place_of t (decode d) ≡ none) where
         pub put_7 : (T (roomy tl al (decode d) t) → ⊥) → put_result 7 0 d ≡ put_gives d t
         put_7 n = unchanged 7 0 (abstract_put_7 tl al (decode d) t k s absent n)
 

@@ -6,15 +6,16 @@ use mathlib.Core.Option.{some, none}
 use mathlib.Core.List.{List}
 use Prim.Native.Nat.{ℕ, ◌+◌, ◌-◌, ◌<◌}
 use native.Mathlib.Omega.{arith}
-use lib.Dec.{T, ltb, eqb, ltb→lt, lt→ltb, eqb→eq}
+use Rattle.std.specs.Cmp.Lexicographic.{pointwise}
+use lib.Dec.{T, eqb, eqb→eq}
 use lib.ListN.{length, get_or, take, drop}
 use Rattle.common.proofs.Lists.{eq→eqb}
 use Rattle.dictionary_layout.specs.Terms.{Term, term}
 use Rattle.dictionary_layout.specs.Layout.{Dict, chain, decode}
 use Rattle.dictionary_layout.specs.Dictionary.{same_row, same_term, place_of, term_of, valid}
-use Rattle.dictionary_entries.specs.Entries.{start_of, length_of, kind_of, next_of, entry_term, EntryFits, id_below, Chained}
-use Rattle.dictionary_layout.proofs.Choice.{if_yes, if_no, true→T, false→not_T}
-use Rattle.dictionary_layout.proofs.Equality.{same_term_refl, same_term→}
+use Rattle.dictionary_entries.specs.Entries.{start_of, length_of, kind_of, next_of, entry_term, EntryFits, Chained}
+use Rattle.dictionary_layout.proofs.Choice.{true→T, false→not_T}
+use Rattle.dictionary_layout.proofs.Equality.{rows_equal, same_term_refl, same_term→}
 use Rattle.dictionary_layout.proofs.Chains.{prev_less}
 use Rattle.dictionary_entries.proofs.Reading.{held, count, lengths, head, entry, entry_names, entry_fits}
 use Rattle.dictionary_layout.proofs.Walking.{holds_fresh, index_of, Walked, walk_start, walk_step, walk_end}
@@ -39,12 +40,13 @@ module _ (table arena : List ℕ) (id kind : ℕ) (bytes : List ℕ) where
 
   -- of the same kind: the part decides
   pub same_kind : (r : Bool) → kind_of table id ≡ kind
-      → r ≡ same_row (take (start_of table id + length_of table id - start_of table id) (drop (start_of table id) arena)) bytes
+      → r ≡ pointwise eqb (take (start_of table id + length_of table id - start_of table id) (drop (start_of table id) arena)) bytes
       → r ≡ same_term (entry_term table arena id) (term kind bytes)
   same_kind r e h =
       let q : start_of table id + length_of table id - start_of table id ≡ length_of table id = omega arith in
-      h ∙ (ap (λ (n : ℕ). same_row (take n (drop (start_of table id) arena)) bytes) q
-      ∙ and-true (eqb (kind_of table id) kind) (same_row (entry_term table arena id).bytes bytes) (eq→eqb (kind_of table id) kind e))
+      h ∙ (rows_equal (take (start_of table id + length_of table id - start_of table id) (drop (start_of table id) arena)) bytes
+      ∙ (ap (λ (n : ℕ). same_row (take n (drop (start_of table id) arena)) bytes) q
+      ∙ and-true (eqb (kind_of table id) kind) (same_row (entry_term table arena id).bytes bytes) (eq→eqb (kind_of table id) kind e)))
 
 -- the test's answer as a fact of terms
 pub same_term_found : (t u : Term) → true ≡ same_term t u → t ≡ u
@@ -95,18 +97,16 @@ module _ {d : Dict} {t : Term} {c : ℕ} (h : Chained d t c) where
 
   -- the entry that names the term is at its place
   pub find_hit : (j : ℕ) {r : Bool} → j < d.terms → r ≡ same_term (entry_term d.table d.arena j) t → r ≡ true
-      → id_below j d.terms ≡ place_of t (decode d)
+      → some j ≡ place_of t (decode d)
   find_hit j b e f =
       let is = same_term_found (entry_term d.table d.arena j) t (sym f ∙ e) in
       let fresh = holds_fresh (length d.table) (length d.arena) (decode d) (held d v) in
-      if_yes (ltb j d.terms) (λ _. some j) (λ _. none) (lt→ltb j d.terms b)
-      ∙ sym (ap (λ (x : Term). place_of x (decode d)) (sym (sym (entry_names d v j b) ∙ is))
+      sym (ap (λ (x : Term). place_of x (decode d)) (sym (sym (entry_names d v j b) ∙ is))
       ∙ index_of (decode d) j fresh (omega (arith, count d v)))
 
   -- at the chain's end only id 0 is left
   pub find_miss : {j : ℕ} {r : Bool} → Walked (decode d) t j → j ≡ 0 → r ≡ same_term (entry_term d.table d.arena 0) t → r ≡ false
-      → id_below d.terms d.terms ≡ place_of t (decode d)
+      → none ≡ place_of t (decode d)
   find_miss w z e f =
       let n = other_term_found (entry_term d.table d.arena 0) t (sym f ∙ e) in
-      if_no (ltb d.terms d.terms) (λ _. some d.terms) (λ _. none) (λ h. let l = ltb→lt d.terms d.terms h in omega arith)
-      ∙ sym (walk_end (decode d) t (subst (Walked (decode d) t) z w) (λ q. n (entry_names d v 0 some_term ∙ q)))
+      sym (walk_end (decode d) t (subst (Walked (decode d) t) z w) (λ q. n (entry_names d v 0 some_term ∙ q)))

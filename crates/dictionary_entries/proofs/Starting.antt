@@ -9,7 +9,6 @@ use lib.Dec.{T, leb, leb→le}
 use lib.ListN.{length, take, drop, replicate, length-replicate, replicate-append-replicate}
 use lib.Seq.{sets, paste, take_at, take-length, take-suc, length-take-le, length-paste, take-paste}
 use Rattle.common.specs.Text.{text}
-use Rattle.common.specs.Vocabulary.{first}
 use Rattle.common.specs.Sizes.{heads_width}
 use Rattle.common.proofs.Lists.{and→}
 use Rattle.dictionary_layout.specs.Terms.{Term, term, no_term, start_terms, start_count, start_bytes}

@@ -1,5 +1,5 @@
 -- Names parted by spaces, read one after the other, and the ids and terms that they list. Assumes nothing.
-use mathlib.Core.Path.{◌≡◌, refl, sym, ◌∙◌, ap, subst}
+use mathlib.Core.Path.{◌≡◌, sym, ◌∙◌, ap, subst}
 use mathlib.Core.Logic.{◌≢◌}
 use mathlib.Core.Bool.{◌&&◌}
 use mathlib.Core.List.{List, [], ◌∷◌, ◌++◌, append_assoc, append-nil}
@@ -23,16 +23,6 @@ pub record ReadingName (names : List ℕ) (from end : ℕ) : Type 0 where
   pub within : end ≤ length names
   pub so_far : take (end - from) (drop from names) ++ word (drop end names) ≡ word (drop from names)
   pub rest : behind (drop end names) ≡ behind (drop from names)
-
-pub name_start : (names : List ℕ) (from : ℕ) → from ≤ length names → ReadingName names from from
-name_start names from h =
-    record {
-      ordered = omega arith;
-      within = h;
-      so_far = let q : from - from
-          ≡ 0 = omega arith in ap (λ (n : ℕ). take n (drop from names) ++ word (drop from names)) q;
-      rest = refl;
-    }
 
 module _ {names : List ℕ} {from end : ℕ} (r : ReadingName names from end) where
   abbrev b : ℕ
@@ -78,18 +68,20 @@ module _ {names : List ℕ} {from end : ℕ} (r : ReadingName names from end) wh
   }
 
   -- the end
-  pub name_last : length names ≤ end → Ends names from end end
+  pub name_last : length names ≤ end → Ends names from (length names) (length names)
   unfolding word behind
   name_last h =
       let e : drop end names ≡ [] = drop_of_length-le names h in
-      record {
+      let q : end ≡ length names = omega (arith, r.within) in
+      subst (λ (n : ℕ). Ends names from n n) q
+      (record {
         ordered = r.ordered;
         within = r.within;
         next_within = r.within;
         is = sym (append-nil (take (end - from) (drop from names)))
             ∙ (ap (λ (x : List ℕ). take (end - from) (drop from names) ++ x) (sym (ap word e)) ∙ r.so_far);
         rest = e ∙ (sym (ap behind e) ∙ r.rest);
-      }
+      })
 
 -- WHAT IS LISTED, one by one
 pub record First (namespace names : List ℕ) (i : ℕ) (ids : List ℕ) (n : ℕ) : Type 0 where
@@ -152,19 +144,3 @@ module _ {d : Dict} {n : ℕ} {namespace names ids : List ℕ} {from k : ℕ} (w
         left = subst (λ (x : ℕ). T (listed namespace (drop next names) (drop (k + 1) ids) x)) p
             (subst (λ (x : List ℕ). T (listed namespace x (drop (k + 1) ids) (suc (n + k)))) (sym e.rest) first.rest);
       }
-
-pub entering_end : {d : Dict} {n : ℕ} {namespace names ids : List ℕ} {from k : ℕ} → Entering d n namespace names ids from k
-    → length ids ≤ k → Upto d (n + length ids)
-entering_end {d} {n} {namespace} {names} {ids} {from} {k} w h =
-    let q : n + k ≡ n + length ids = omega (arith, w.within) in subst (Upto d) q w.upto
-
-pub entering_start : {d : Dict} {n : ℕ} {namespace names ids : List ℕ} → Upto d n → T (listed namespace names ids n)
-    → Entering d n namespace names ids 0 0
-entering_start {d} {n} {namespace} {names} {ids} u l =
-    let q : n ≡ n + 0 = omega arith in record {
-      within = omega arith;
-      upto = subst (Upto d) q u;
-      from_within = omega arith;
-      left = subst
-          (λ (x : ℕ). T (listed namespace names ids x)) q l;
-    }

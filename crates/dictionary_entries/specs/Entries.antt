@@ -1,9 +1,9 @@
 -- What entries of a table say: for the contracts of the functions that read and write them. An entry is four numbers: start in the
 -- arena, length, kind, next id. REFERENCE 2.2. Assumes nothing.
-use Rattle.std.specs.Prelude.{◌≡◌, List, [], ◌∷◌, ◌++◌, ℕ, ◌+◌, ◌≤◌, ◌<◌, T, ltb, length, get_or, take, drop}
-use Rattle.std.proofs.Math.Option.{Option, some, none}
+use Rattle.std.specs.Prelude.{◌≡◌, List, [], ◌∷◌, ◌++◌, ℕ, ◌+◌, ◌≤◌, ◌<◌, T, length, get_or, take, drop, Option, Some, None}
+use Rattle.std.proofs.Math.Option.{Option as Place, some, none}
+use Rattle.common.specs.declared.Id.{Id}
 use Rattle.common.specs.Sizes.{entry_width, table_limit, arena_limit}
-use Rattle.common.specs.Triples.{if}
 use Rattle.dictionary_layout.specs.Terms.{Term, term}
 use Rattle.dictionary_layout.specs.Layout.{Dict, chain, entry_at, layout, decode}
 use Rattle.dictionary_layout.specs.Dictionary.{valid}
@@ -30,9 +30,10 @@ pub record EntryFits (table arena : List ℕ) (id : ℕ) : Type 0 where
   pub entry : entry_at id + entry_width ≤ length table
   pub part : start_of table id + length_of table id ≤ length arena
 
--- an id, or none where it is the count of the terms
-abbrev pub id_below : ℕ → ℕ → Option ℕ
-id_below id count = if (ltb id count) (λ _. some id) (λ _. none)
+-- the id that was found, or none
+abbrev pub id_found : Option Id → Place ℕ
+id_found (Some i) = some i.0
+id_found None = none
 
 -- a dictionary that is not broken, and the chain of a term
 pub record Chained (d : Dict) (t : Term) (c : ℕ) : Type 0 where

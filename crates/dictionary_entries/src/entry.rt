@@ -3,12 +3,11 @@ ghost use Rattle.std.specs.Prelude.{◌≡◌};
 ghost use Rattle.dictionary_layout.specs.Terms.{term};
 ghost use Rattle.dictionary_layout.specs.Layout.{decode};
 ghost use Rattle.dictionary_layout.specs.Dictionary.{same_term, place_of};
-ghost use Rattle.dictionary_entries.specs.Entries.{entry_term, EntryFits, id_below, Chained};
+ghost use Rattle.dictionary_entries.specs.Entries.{entry_term, EntryFits, id_found, Chained};
 ghost use Rattle.dictionary_layout.specs.Values.{contents};
 
-use common::{ENTRY_WIDTH, HEADS_WIDTH};
+use common::{ENTRY_WIDTH, HEADS_WIDTH, Id};
 use dictionary_layout::Counters;
-use dictionary_layout::bytes::same_bytes;
 
 // Whether the entry of the id names the term.
 pub fn names(table: &[u32], arena: &[u8], id: usize, kind: u32, bytes: &[u8]) -> bool
@@ -21,10 +20,10 @@ pub fn names(table: &[u32], arena: &[u8], id: usize, kind: u32, bytes: &[u8]) ->
     }
     let start = table[at] as usize;
     let end = start + table[at + 1] as usize;
-    same_bytes(&arena[start..end], bytes)
+    &arena[start..end] == bytes
 }
 
-// The id of the term, whose chain is given, or the term count where it is not held.
+// The id of the term, whose chain is given, where it is held.
 pub fn find_term(
     table: &[u32],
     arena: &[u8],
@@ -32,21 +31,22 @@ pub fn find_term(
     kind: u32,
     bytes: &[u8],
     chain: usize,
-) -> u32
+) -> Option<Id>
     requires { Chained (contents table.now arena.now counters) (term kind bytes.now) chain }
-    ensures { id_below result counters.terms
+    ensures { id_found result
         ≡ place_of (term kind bytes.now) (decode (contents table.now arena.now counters)) }
 {
     let mut id = table[chain];
     while id != 0 {
         let at = id as usize;
         if names(table, arena, at, kind, bytes) {
-            return id;
+            return Some(Id(id));
         }
         id = table[HEADS_WIDTH + ENTRY_WIDTH * at + 3];
     }
     if names(table, arena, 0, kind, bytes) {
-        return 0;
+        Some(Id(0))
+    } else {
+        None
     }
-    counters.terms
 }

@@ -1,14 +1,15 @@
 // The terms of a started dictionary, each at the id that the vocabulary gives it.
 ghost use Rattle.std.specs.Prelude.{◌≡◌, ◌++◌, ◌+◌, ◌≤◌, T, length, get_or};
+ghost use Rattle.common.specs.Refusals.{answer_number};
 ghost use Rattle.dictionary_layout.specs.Terms.{start_terms, start_count};
 ghost use Rattle.dictionary_layout.specs.Layout.{layout};
-ghost use Rattle.dictionary_layout.specs.Dictionary.{start_refusal};
+ghost use Rattle.dictionary_layout.specs.Dictionary.{sized, start_fits, start_refusal};
 ghost use Rattle.dictionary_entries.specs.Starting.{Upto, Next, Ends, listed, Blank};
 ghost use Rattle.dictionary_layout.specs.Values.{contents};
 
 use crate::append::{append, write_entry};
 use crate::values::Word;
-use common::{ARENA_LIMIT, ENTRY_WIDTH, HEADS_WIDTH, Id, TABLE_LIMIT, Vocab};
+use common::{ARENA_LIMIT, ENTRY_WIDTH, HEADS_WIDTH, Id, Refusal, TABLE_LIMIT, Vocab};
 use dictionary_layout::bytes::copy_at;
 use dictionary_layout::hash::digest;
 use dictionary_layout::{Counters, START_BYTES, START_TABLE};
@@ -60,14 +61,15 @@ fn name_end(names: &[u8], from: usize) -> Word
     requires { from ≤ length names.now }
     ensures { Ends names.now from result.end result.next }
 {
-    let mut end = from;
-    while end < names.len() {
-        if names[end] == 32 {
+    for end in from..names.len() {
+        if names[end] == b' ' {
             return Word { end, next: end + 1 };
         }
-        end += 1;
     }
-    Word { end, next: end }
+    Word {
+        end: names.len(),
+        next: names.len(),
+    }
 }
 
 // The named nodes of a namespace, their local names parted by spaces, each at its id.
@@ -85,14 +87,10 @@ fn enter_names(
 {
     let mut c = counters;
     let mut from = 0;
-    let mut k = 0;
-    while k < ids.len() {
+    for id in ids {
         let name = name_end(names, from);
-        let end = name.end;
-        let next = enter_named(table, arena, c, Id(ids[k]), namespace, &names[from..end]);
-        c = next;
+        c = enter_named(table, arena, c, Id(*id), namespace, &names[from..name.end]);
         from = name.next;
-        k += 1;
     }
     c
 }
@@ -178,27 +176,34 @@ pub fn enter_all(table: &mut [u32], arena: &mut [u8]) -> Counters
     enter_owl(table, arena, c)
 }
 
-// The number of a start's refusal for a table and an arena of these lengths, or 0.
-pub fn start_refusal(table: usize, arena: usize) -> u32
-    ensures { result ≡ start_refusal table arena }
+// Whether a table and an arena of these lengths are well sized.
+fn is_sized(table: usize, arena: usize) -> bool
+    ensures { result ≡ sized table arena }
 {
-    if table < HEADS_WIDTH {
-        return 4;
+    HEADS_WIDTH <= table
+        && (table - HEADS_WIDTH) % ENTRY_WIDTH == 0
+        && table <= TABLE_LIMIT
+        && arena <= ARENA_LIMIT
+}
+
+// Whether they have room for the start's terms.
+#[tactic(auto, unfolding(dictionary_layout::specs::Terms::start_terms))]
+fn has_room(table: usize, arena: usize) -> bool
+    ensures { result ≡ start_fits table arena }
+{
+    START_TABLE <= table && START_BYTES <= arena
+}
+
+// Why a start refuses a table and an arena of these lengths, if it does.
+#[tactic(auto, unfolding(dictionary_layout::specs::Dictionary::start_refusal))]
+pub fn start_refusal(table: usize, arena: usize) -> Result<(), Refusal>
+    ensures { answer_number result ≡ start_refusal table arena }
+{
+    if !is_sized(table, arena) {
+        Err(Refusal::IllSizedStore)
+    } else if !has_room(table, arena) {
+        Err(Refusal::DictionaryFull)
+    } else {
+        Ok(())
     }
-    if (table - HEADS_WIDTH) % ENTRY_WIDTH != 0 {
-        return 4;
-    }
-    if TABLE_LIMIT < table {
-        return 4;
-    }
-    if ARENA_LIMIT < arena {
-        return 4;
-    }
-    if table < START_TABLE {
-        return 7;
-    }
-    if arena < START_BYTES {
-        return 7;
-    }
-    0
 }

@@ -11,7 +11,7 @@ use lib.ListN.{length, get_or, take, drop, set, replicate, length-set, length-ta
 use lib.Seq.{get_or-set_same, get_or-set_other}
 use Rattle.common.specs.Last.{Last}
 use Rattle.common.proofs.Last.{last_is, last_none, last_more, last_new}
-use Rattle.common.specs.Sizes.{entry_limit, term_limit}
+use Rattle.common.specs.Sizes.{term_limit}
 use Rattle.dictionary_layout.specs.declared.values.Digest.{Digest}
 use Rattle.dictionary_layout.specs.Terms.{Term, term}
 use Rattle.dictionary_layout.specs.Dictionary.{same_term}
@@ -20,7 +20,7 @@ use Rattle.dictionary_layout.specs.Digest.{bucket, bucket_count, digest_of}
 use Rattle.dictionary_layout.proofs.Rows.{zeros_at}
 use Rattle.dictionary_layout.proofs.Digests.{digest_bucket}
 use Rattle.dictionary_entries.proofs.Searching.{same_term_found, other_term_found}
-use Rattle.dictionary_hash.specs.Hashing.{bucket_of, Hashed, linked, FindsEntry, Seekable, term_hash_length}
+use Rattle.dictionary_hash.specs.Hashing.{bucket_of, Hashed, linked, Seekable, term_hash_length}
 
 -- no entry yet
 pub hashed_none : {table arena hash : List ℕ} → length hash ≡ term_hash_length → hash ≡ replicate term_hash_length 0
@@ -123,14 +123,9 @@ module _ {table arena hash : List ℕ} {k : ℕ} {t : Term} {x : ℕ} (s : Seeka
         go j a b (yes l) = last j a l (ℕ_discrete j (cur - 1))
         go j a b (no l) = w.done j (omega arith) b
 
-    pub seek_hit : {r : Bool} → r ≡ same_term (entry_term table arena (cur - 1)) t → r ≡ true → FindsEntry table arena k t cur
-    seek_hit g f = record {
-      found = λ _. (w.below, same_term_found (entry_term table arena (cur - 1)) t (sym f ∙ g));
-      none = λ e. absurd (p e);
-    }
-
-  pub seek_end : {cur : ℕ} → Seeking table arena k t cur → cur ≡ 0 → FindsEntry table arena k t 0
-  seek_end w e = record { found = λ q. absurd (omega arith); none = λ _ j l. w.done j (omega arith) l }
+    pub seek_hit : {r : Bool} → r ≡ same_term (entry_term table arena (cur - 1)) t → r ≡ true
+        → (cur - 1 < k) × (entry_term table arena (cur - 1) ≡ t)
+    seek_hit g f = (omega (arith, w.below), same_term_found (entry_term table arena (cur - 1)) t (sym f ∙ g))
 
 -- the term that the code reads at entry k, whose bytes begin at a place of the arena
 abbrev pub read_term : List ℕ → List ℕ → ℕ → ℕ → Term
@@ -146,19 +141,11 @@ pub read_short : (table arena : List ℕ) (k at : ℕ) → length_of table k ≤
     → length (read_term table arena k at).bytes ≤ term_limit
 read_short table arena k at h = omega (arith, length-take (at + length_of table k - at) (drop at arena))
 
--- THE FIRST n ENTRIES, of which k are entered
-pub record Entered (table arena hash : List ℕ) (n k : ℕ) : Type 0 where
-  pub within : k ≤ n
-  pub hashed : Hashed table arena hash k
-
-pub entered_more : {table arena hash hash' : List ℕ} {n k : ℕ} {d : Digest} → Entered table arena hash n k → k < n → n ≤ entry_limit
+-- ONE MORE OF THE FIRST ENTRIES
+pub entered_more : {table arena hash hash' : List ℕ} {k : ℕ} {d : Digest} → Hashed table arena hash k → k < bucket_count
     → kind_of table k < 4294967296 → d ≡ digest_of (read_term table arena k (start_of table k)) → hash' ≡ linked hash d.bucket k
-    → Entered table arena hash' n (k + 1)
-entered_more {table} {arena} {hash} {hash'} {n} {k} {d} s h few l f e =
+    → Hashed table arena hash' (k + 1)
+entered_more {table} {arena} {hash} {hash'} {k} {d} s h l f e =
     let u = read_term table arena k (start_of table k) in
     let keyed = ap (λ (x : Digest). x.bucket) f ∙ ap bucket (read_is table arena k (start_of table k) refl) in
-    record {
-      within = omega arith;
-      hashed = subst (λ (x : List ℕ). Hashed table arena x (k + 1)) (sym e)
-          (hashed_more s.hashed (digest_bucket u l f) (omega arith) (sym keyed));
-    }
+    subst (λ (x : List ℕ). Hashed table arena x (k + 1)) (sym e) (hashed_more s (digest_bucket u l f) h (sym keyed))

@@ -1,6 +1,7 @@
 -- A hash over the entries of a dictionary: for the contracts of the functions that make it and search it. It shows in no result. Assumes
 -- nothing.
-use Rattle.std.specs.Prelude.{◌≡◌, List, ℕ, ◌+◌, ◌-◌, ◌≤◌, ◌<◌, length, get_or, set}
+use Rattle.std.specs.Prelude.{◌≡◌, List, ℕ, ◌+◌, ◌≤◌, ◌<◌, length, get_or, set, Option, MatchOption}
+use Rattle.common.specs.declared.Id.{Id}
 use Rattle.common.specs.Last.{Last}
 use Rattle.common.specs.Sizes.{entry_limit, term_limit}
 use Rattle.dictionary_layout.specs.Terms.{Term}
@@ -24,10 +25,10 @@ pub record Hashed (table arena hash : List ℕ) (k : ℕ) : Type 0 where
 abbrev pub linked : List ℕ → ℕ → ℕ → List ℕ
 linked hash x k = set (set hash (bucket_count + k) (get_or hash x 0)) x (k + 1)
 
--- what a search of the first k entries for a term gives: the id plus 1 of an entry that names it, or 0 where there is none
-pub record FindsEntry (table arena : List ℕ) (k : ℕ) (t : Term) (r : ℕ) : Type 0 where
-  pub found : 0 < r → (r ≤ k) × (entry_term table arena (r - 1) ≡ t)
-  pub none : r ≡ 0 → (j : ℕ) → j < k → entry_term table arena j ≡ t → ⊥
+-- what a search of the first k entries for a term gives: the id of an entry that names it, or none where there is none
+abbrev pub FindsEntry : List ℕ → List ℕ → ℕ → Term → Option Id → Type 0
+FindsEntry table arena k t r =
+    MatchOption r ((j : ℕ) → j < k → entry_term table arena j ≡ t → ⊥) (λ i. (i.0 < k) × (entry_term table arena i.0 ≡ t))
 
 -- what the search for it needs
 pub record Seekable (table arena hash : List ℕ) (k : ℕ) (t : Term) (x : ℕ) : Type 0 where

@@ -6,7 +6,7 @@ ghost use Rattle.dictionary_layout.specs.Terms.{term};
 ghost use Rattle.dictionary_layout.specs.Digest.{bucket_count};
 ghost use Rattle.dictionary_hash.specs.Hashing.{term_hash_length, Hashed, linked, FindsEntry, Seekable, Hashable};
 
-use common::{ENTRY_WIDTH, HEADS_WIDTH};
+use common::{ENTRY_WIDTH, HEADS_WIDTH, Id};
 use dictionary_entries::entry::names;
 use dictionary_layout::BUCKET_COUNT;
 use dictionary_layout::hash::digest;
@@ -14,7 +14,7 @@ use dictionary_layout::hash::digest;
 // The length of the hash: a head for each bucket, and a link for each entry.
 pub const TERM_HASH_LENGTH: usize = BUCKET_COUNT + BUCKET_COUNT;
 
-// The id plus 1 of an entry among the first k that names the term, whose bucket is given, or 0 where there is none.
+// The id of an entry among the first k that names the term, whose bucket is given, where there is one.
 pub fn find_entry(
     table: &[u32],
     arena: &[u8],
@@ -23,18 +23,19 @@ pub fn find_entry(
     kind: u32,
     bytes: &[u8],
     bucket: usize,
-) -> usize
+) -> Option<Id>
     requires { Seekable table.now arena.now hash.now k (term kind bytes.now) bucket }
     ensures { FindsEntry table.now arena.now k (term kind bytes.now) result }
 {
-    let mut cur = hash[bucket] as usize;
+    let mut cur = hash[bucket];
     while cur != 0 {
-        if names(table, arena, cur - 1, kind, bytes) {
-            return cur;
+        let at = cur as usize - 1;
+        if names(table, arena, at, kind, bytes) {
+            return Some(Id(cur - 1));
         }
-        cur = hash[BUCKET_COUNT + (cur - 1)] as usize;
+        cur = hash[BUCKET_COUNT + at];
     }
-    0
+    None
 }
 
 // Enters entry k in the hash: it becomes the first of its bucket.
@@ -52,13 +53,11 @@ pub fn hash_entries(table: &[u32], arena: &[u8], hash: &mut [u32], n: usize)
     requires { Hashable table.now arena.now hash.old n }
     ensures { Hashed table.now arena.now hash.new n }
 {
-    let mut k = 0;
-    while k < n {
+    for k in 0..n {
         let entry = HEADS_WIDTH + ENTRY_WIDTH * k;
         let start = table[entry] as usize;
         let end = start + table[entry + 1] as usize;
         let bucket = digest(table[entry + 2], &arena[start..end]).bucket;
         hash_entry(hash, bucket, k);
-        k += 1;
     }
 }

@@ -1,3 +1,4 @@
 pub mod Cases
 pub mod Looking
 pub mod Refusals
+pub mod Accepting

@@ -4,40 +4,21 @@ use mathlib.Core.Logic.{◌≢◌}
 use mathlib.Core.Bool.{Bool, true, false}
 use Prim.Native.Nat.{ℕ, ◌+◌, ◌≤◌, ◌<◌}
 use native.Mathlib.Omega.{arith}
-use lib.Dec.{T, le→leb}
+use Rattle.std.specs.Prelude.{Option, Some, None}
+use Rattle.std.proofs.Math.Option.{none}
+use lib.Dec.{T}
 use lib.ListN.{length}
-use Rattle.common.specs.Sizes.{term_limit}
 use Rattle.common.specs.Triples.{if}
 use Rattle.dictionary_layout.specs.Terms.{Term}
-use Rattle.dictionary_layout.specs.Layout.{Dict, entry_at}
-use Rattle.dictionary_layout.specs.Dictionary.{kind_known, short, valid}
+use Rattle.common.specs.declared.Id.{Id}
+use Rattle.dictionary_layout.specs.Layout.{Dict, entry_at, decode}
+use Rattle.dictionary_layout.specs.Dictionary.{place_of, kind_known, short, valid}
 use Rattle.dictionary_layout.specs.Calls.{put_result, put_gives}
-use Rattle.dictionary_entries.specs.Entries.{Appendable, with_term}
+use Rattle.dictionary_entries.specs.Entries.{id_found, Appendable, with_term}
 use Rattle.dictionary_index.specs.Found.{term_refusal, Found}
-use Rattle.dictionary_layout.proofs.Choice.{if_yes, if_no}
-use Rattle.dictionary_entries.proofs.Putting.{kind_in, too_long, put_10, put_11, put_held, put_full_table, put_full_arena, put_new}
-use Rattle.dictionary_entries.proofs.Putting.{appendable}
+use Rattle.dictionary_entries.proofs.Putting.{put_10, put_11, put_held, put_full_table, put_full_arena, put_new, appendable}
 
 module _ (t : Term) where
-  abbrev on_short : Unit {0} → ℕ
-  on_short = λ _. if (short t) (λ _. 0) (λ _. 11)
-
-  -- as the code tests
-  pub refusal_10 : (T (kind_known t) → ⊥) → 10 ≡ term_refusal t
-  unfolding term_refusal
-  refusal_10 n = sym (if_no (kind_known t) on_short (λ _. 10) n)
-
-  pub refusal_11 : 1 ≤ t.kind → t.kind ≤ 3 → term_limit < length t.bytes → 11 ≡ term_refusal t
-  unfolding term_refusal
-  refusal_11 a b l =
-      sym (if_yes (kind_known t) on_short (λ _. 10) (kind_in t a b) ∙ if_no (short t) (λ _. 0) (λ _. 11) (too_long t l))
-
-  pub refusal_0 : 1 ≤ t.kind → t.kind ≤ 3 → length t.bytes ≤ term_limit → 0 ≡ term_refusal t
-  unfolding term_refusal
-  refusal_0 a b l =
-      sym (if_yes (kind_known t) on_short (λ _. 10) (kind_in t a b)
-      ∙ if_yes (short t) (λ _. 0) (λ _. 11) (le→leb (length t.bytes) term_limit l))
-
   -- a term that is not refused
   pub refusal_none : term_refusal t ≡ 0 → T (kind_known t) × T (short t)
   unfolding term_refusal
@@ -60,7 +41,7 @@ module _ (t : Term) where
       go false b f g h q = ap (λ (x : ℕ). put_result x 0 d) q ∙ put_10 d v t g
 
 -- WHERE THE TERM WAS SOUGHT
-module _ {d : Dict} {t : Term} {c i : ℕ} (f : Found d t c i) where
+module _ {d : Dict} {t : Term} {c : ℕ} {r : Option Id} (f : Found d t c r) where
   abbrev known : T (kind_known t)
   known = (refusal_none t f.accepted).0
 
@@ -68,20 +49,23 @@ module _ {d : Dict} {t : Term} {c i : ℕ} (f : Found d t c i) where
   fits = (refusal_none t f.accepted).1
 
   -- it is held
-  pub found_held : i < d.terms → put_result 0 i d ≡ put_gives d t
-  found_held = put_held d f.unbroken t known fits i f.place
+  pub found_held : {i : Id} → r ≡ Some i → put_result 0 i.0 d ≡ put_gives d t
+  found_held e = put_held d f.unbroken t known fits (sym f.place ∙ ap id_found e)
 
-  module _ (h : d.terms ≤ i) where
+  module _ (e : r ≡ None) where
+    abbrev absent : place_of t (decode d) ≡ none
+    absent = sym f.place ∙ ap id_found e
+
     -- no entry is left, or too few bytes
     pub found_full_table : length d.table < entry_at (d.terms + 1) → put_result 7 0 d ≡ put_gives d t
-    found_full_table = put_full_table d f.unbroken t known fits i f.place h
+    found_full_table = put_full_table d f.unbroken t known fits absent
 
     pub found_full_arena : length d.arena < d.used + length t.bytes → put_result 7 0 d ≡ put_gives d t
-    found_full_arena = put_full_arena d f.unbroken t known fits i f.place h
+    found_full_arena = put_full_arena d f.unbroken t known fits absent
 
     module _ (a : entry_at (d.terms + 1) ≤ length d.table) (b : d.used + length t.bytes ≤ length d.arena) where
       pub found_appendable : Appendable d t c
       found_appendable = appendable d f.unbroken t f.chained a b
 
       pub found_new : {d' : Dict} → d' ≡ with_term d t → put_result 0 d.terms d' ≡ put_gives d t
-      found_new {d'} = put_new d f.unbroken t known fits i f.place h d' a b
+      found_new {d'} = put_new d f.unbroken t known fits absent d' a b

@@ -1,27 +1,36 @@
 -- The answers that values of the types of src/ stand for. Assumes nothing.
-use Rattle.std.specs.Prelude.{◌≡◌, List, ℕ, ◌+◌, ◌-◌, ◌≤◌, length, take, drop}
+use Rattle.std.specs.Prelude.{◌≡◌, Result, Ok, Err, List, ℕ, ◌+◌, ◌-◌, ◌≤◌, length, take, drop}
+use Rattle.common.specs.declared.Id.{Id}
+use Rattle.common.specs.declared.refusal.Refusal.{Refusal}
+use Rattle.common.specs.Refusals.{number_of}
 use Rattle.dictionary_layout.specs.declared.values.Counters.{Counters}
 use Rattle.dictionary_index.specs.declared.values.Located.{Located}
-use Rattle.dictionary_index.specs.declared.values.Put.{Put}
 use Rattle.dictionary_index.specs.declared.values.PutNext.{PutNext}
-use Rattle.dictionary_index.specs.declared.values.Started.{Started}
-use Rattle.dictionary_layout.specs.Layout.{Dict}
+use Rattle.dictionary_layout.specs.Layout.{Dict, dict}
 use Rattle.dictionary_layout.specs.Dictionary.{if_zero, LookupAnswer, lookup_answer}
 use Rattle.dictionary_layout.specs.Calls.{StartResult, start_result, PutResult, put_result, lookup_gives}
 use Rattle.dictionary_entries.specs.Entries.{start_of}
 use Rattle.dictionary_layout.specs.Values.{contents}
 
--- the answer of a start, with the table and the arena as they are left
-abbrev pub start_left : Started → List ℕ → List ℕ → StartResult
-start_left r t a = start_result r.number (contents t a r.counters)
-
--- the answer of a put, with the table and the arena as they are left
-abbrev pub put_left : PutNext → List ℕ → List ℕ → PutResult
-put_left r t a = put_result r.number r.id.0 (contents t a r.counters)
+-- the answer of a start, with the table and the arena as they are left; a refusal leaves no counters
+abbrev pub start_left : Result Counters Refusal → List ℕ → List ℕ → StartResult
+start_left (Ok c) t a = start_result 0 (contents t a c)
+start_left (Err e) t a = start_result (number_of e) (dict t a 0 0)
 
 -- the answer of a put with lent counters, with table, arena and counters as they are left
-abbrev pub put_lent : Put → List ℕ → List ℕ → Counters → PutResult
-put_lent r t a c = put_result r.number r.id.0 (contents t a c)
+abbrev pub put_lent : Result Id Refusal → List ℕ → List ℕ → Counters → PutResult
+put_lent (Ok i) t a c = put_result 0 i.0 (contents t a c)
+put_lent (Err e) t a c = put_result (number_of e) 0 (contents t a c)
+
+-- the counters after a put by value that was given the counters c: a refusal leaves them as they were
+abbrev pub counters_left : Counters → Result PutNext Refusal → Counters
+counters_left c (Ok r) = r.counters
+counters_left c (Err e) = c
+
+-- the answer of a put by value that was given the counters c, with the table and the arena as they are left
+abbrev pub put_left : Counters → Result PutNext Refusal → List ℕ → List ℕ → PutResult
+put_left c (Ok r) t a = put_result 0 r.id.0 (contents t a r.counters)
+put_left c (Err e) t a = put_result (number_of e) 0 (contents t a c)
 
 -- the answer of a lookup whose part lies at a place of the arena
 abbrev pub located : Located → List ℕ → LookupAnswer

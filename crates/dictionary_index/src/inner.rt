@@ -1,5 +1,6 @@
 // Put, and where a term lies, where the contents are known to be a dictionary's: for callers that test them once and not at each call.
 ghost use Rattle.std.specs.Prelude.{◌≡◌, ◌≤◌, T, length};
+ghost use Rattle.common.specs.Refusals.{answer_number};
 ghost use Rattle.dictionary_layout.specs.Terms.{term};
 ghost use Rattle.dictionary_layout.specs.Dictionary.{valid, lookup_answer};
 ghost use Rattle.dictionary_layout.specs.Calls.{put_gives};
@@ -8,51 +9,27 @@ ghost use Rattle.dictionary_index.specs.Values.{put_left, located, further, Loca
 ghost use Rattle.dictionary_index.specs.Found.{term_refusal, Found};
 
 use crate::values::{Located, PutNext};
-use common::{ENTRY_WIDTH, HEADS_WIDTH, Id, TERM_LIMIT};
+use common::{ENTRY_WIDTH, HEADS_WIDTH, Id, Refusal, TERM_LIMIT};
 use dictionary_entries::append::append;
 use dictionary_entries::entry::find_term;
 use dictionary_layout::Counters;
 use dictionary_layout::hash::digest;
 
-// A refusal leaves the counters as they are.
-pub fn refused_put(number: u32, counters: Counters) -> PutNext
-    ensures { result ≡ record { number = number; id = record { 0 = 0 }; counters = counters } }
+// Why a put refuses a term, whatever is held, if it does.
+#[tactic(auto, unfolding(crate::specs::Found::term_refusal))]
+pub fn put_refusal(kind: u32, bytes: &[u8]) -> Result<(), Refusal>
+    ensures { answer_number result ≡ term_refusal (term kind bytes.now) }
 {
-    PutNext {
-        number,
-        id: Id(0),
-        counters,
+    if kind < 1 || 3 < kind {
+        Err(Refusal::UnknownKind)
+    } else if TERM_LIMIT < bytes.len() {
+        Err(Refusal::TermTooLong)
+    } else {
+        Ok(())
     }
 }
 
-// The id of a put that is accepted, and the counters as it leaves them.
-fn accepted_put(id: u32, counters: Counters) -> PutNext
-    ensures { result ≡ record { number = 0; id = record { 0 = id }; counters = counters } }
-{
-    PutNext {
-        number: 0,
-        id: Id(id),
-        counters,
-    }
-}
-
-// The number by which a put refuses a term, whatever is held, or 0.
-pub fn put_refusal(kind: u32, bytes: &[u8]) -> u32
-    ensures { result ≡ term_refusal (term kind bytes.now) }
-{
-    if kind < 1 {
-        return 10;
-    }
-    if 3 < kind {
-        return 10;
-    }
-    if TERM_LIMIT < bytes.len() {
-        return 11;
-    }
-    0
-}
-
-// Put where the term was sought: its id is given, or the term count where it is not held.
+// Put where the term was sought: its id is given where it is held.
 pub fn put_found(
     table: &mut [u32],
     arena: &mut [u8],
@@ -60,23 +37,25 @@ pub fn put_found(
     kind: u32,
     bytes: &[u8],
     chain: usize,
-    id: u32,
-) -> PutNext
-    requires { Found (contents table.old arena.old counters) (term kind bytes.now) chain id }
-    ensures { put_left result table.new arena.new
+    found: Option<Id>,
+) -> Result<PutNext, Refusal>
+    requires { Found (contents table.old arena.old counters) (term kind bytes.now) chain found }
+    ensures { put_left counters result table.new arena.new
         ≡ put_gives (contents table.old arena.old counters) (term kind bytes.now) }
 {
-    if id < counters.terms {
-        return accepted_put(id, counters);
+    if let Some(id) = found {
+        return Ok(PutNext { id, counters });
     }
-    if table.len() < HEADS_WIDTH + ENTRY_WIDTH * (counters.terms as usize + 1) {
-        return refused_put(7, counters);
-    }
-    if arena.len() < counters.used as usize + bytes.len() {
-        return refused_put(7, counters);
+    if table.len() < HEADS_WIDTH + ENTRY_WIDTH * (counters.terms as usize + 1)
+        || arena.len() < counters.used as usize + bytes.len()
+    {
+        return Err(Refusal::DictionaryFull);
     }
     let next = append(table, arena, counters, kind, bytes, chain);
-    accepted_put(counters.terms, next)
+    Ok(PutNext {
+        id: Id(counters.terms),
+        counters: next,
+    })
 }
 
 // Put without the test for a broken dictionary; it leaves a dictionary that is not broken.
@@ -86,18 +65,15 @@ pub fn put_valid(
     counters: Counters,
     kind: u32,
     bytes: &[u8],
-) -> PutNext
+) -> Result<PutNext, Refusal>
     requires { T (valid (contents table.old arena.old counters)) }
-    ensures { put_left result table.new arena.new
+    ensures { put_left counters result table.new arena.new
         ≡ put_gives (contents table.old arena.old counters) (term kind bytes.now) }
 {
-    let refusal = put_refusal(kind, bytes);
-    if refusal != 0 {
-        return refused_put(refusal, counters);
-    }
+    put_refusal(kind, bytes)?;
     let chain = digest(kind, bytes).chain;
-    let id = find_term(table, arena, counters, kind, bytes, chain);
-    put_found(table, arena, counters, kind, bytes, chain, id)
+    let found = find_term(table, arena, counters, kind, bytes, chain);
+    put_found(table, arena, counters, kind, bytes, chain, found)
 }
 
 // Where the term of an id lies.
@@ -132,7 +108,5 @@ pub fn part<'a>(arena: &'a [u8], place: Located, number: &mut u32, kind: &mut u3
 {
     *number = place.number;
     *kind = place.kind;
-    let start = place.start;
-    let end = place.end;
-    &arena[start..end]
+    &arena[place.start..place.end]
 }

@@ -11,33 +11,22 @@ ghost use Rattle.dictionary_layout.specs.Calls.{start_gives, put_gives};
 ghost use Rattle.dictionary_layout.specs.Values.{contents};
 ghost use Rattle.dictionary_index.specs.Values.{start_left, put_left, put_lent, Locates, LooksUp};
 
-use common::{Id, clear_from};
+use common::{Id, Refusal};
 use dictionary_entries::initial::{enter_all, start_refusal};
 pub use dictionary_layout::Counters;
-use dictionary_layout::bytes::clear_bytes;
 pub use dictionary_valid::is_valid;
 use inner::part;
-pub use inner::{locate, put_found, put_refusal, put_valid, refused_put};
-pub use values::{Located, Put, PutNext, Started};
+pub use inner::{locate, put_found, put_refusal, put_valid};
+pub use values::{Located, PutNext};
 
 // Starts a dictionary in any table and arena that are well sized and large enough.
-pub fn start(table: &mut [u32], arena: &mut [u8]) -> Started
+pub fn start(table: &mut [u32], arena: &mut [u8]) -> Result<Counters, Refusal>
     ensures { start_left result table.new arena.new ≡ start_gives table.old arena.old }
 {
-    let number = start_refusal(table.len(), arena.len());
-    if number != 0 {
-        return Started {
-            number,
-            counters: Counters { terms: 0, used: 0 },
-        };
-    }
-    clear_from(table, 0);
-    clear_bytes(arena);
-    let counters = enter_all(table, arena);
-    Started {
-        number: 0,
-        counters,
-    }
+    start_refusal(table.len(), arena.len())?;
+    table.fill(0);
+    arena.fill(0);
+    Ok(enter_all(table, arena))
 }
 
 // Put, with the counters by value.
@@ -47,14 +36,14 @@ pub fn put_by_value(
     counters: Counters,
     kind: u32,
     bytes: &[u8],
-) -> PutNext
-    ensures { put_left result table.new arena.new
+) -> Result<PutNext, Refusal>
+    ensures { put_left counters result table.new arena.new
         ≡ put_gives (contents table.old arena.old counters) (term kind bytes.now) }
 {
     if is_valid(table, arena, counters) {
         return put_valid(table, arena, counters, kind, bytes);
     }
-    refused_put(1, counters)
+    Err(Refusal::BrokenDictionary)
 }
 
 // Put: the id of the term, which is added where it is not held. The counters are lent, and changed with the table and the arena.
@@ -64,16 +53,13 @@ pub fn put(
     counters: &mut Counters,
     kind: u32,
     bytes: &[u8],
-) -> Put
+) -> Result<Id, Refusal>
     ensures { put_lent result table.new arena.new counters.new
         ≡ put_gives (contents table.old arena.old counters.old) (term kind bytes.now) }
 {
-    let next = put_by_value(table, arena, *counters, kind, bytes);
+    let next = put_by_value(table, arena, *counters, kind, bytes)?;
     *counters = next.counters;
-    Put {
-        number: next.number,
-        id: next.id,
-    }
+    Ok(next.id)
 }
 
 // Where the term of an id lies, or a refusal.

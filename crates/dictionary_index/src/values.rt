@@ -2,24 +2,9 @@
 use common::Id;
 use dictionary_layout::Counters;
 
-// What a start answers.
-#[derive(Clone, Copy)]
-pub struct Started {
-    pub number: u32,
-    pub counters: Counters,
-}
-
-// What a put answers.
-#[derive(Clone, Copy)]
-pub struct Put {
-    pub number: u32,
-    pub id: Id,
-}
-
-// What a put by value answers, with the counters as they are afterwards.
+// What a put by value answers: the id of the term, and the counters as they are afterwards.
 #[derive(Clone, Copy)]
 pub struct PutNext {
-    pub number: u32,
     pub id: Id,
     pub counters: Counters,
 }

@@ -1,12 +1,12 @@
 -- A term's chain and bucket, computed byte by byte. Assumes nothing.
-use mathlib.Core.Path.{◌≡◌, refl, sym, ◌∙◌, ap}
+use mathlib.Core.Path.{◌≡◌, sym, ◌∙◌, ap}
 use mathlib.Core.List.{List, [], ◌∷◌}
 use Prim.Native.Nat.{ℕ, ◌+◌, ◌*◌, ◌/◌, ◌%◌, ◌≤◌, ◌<◌}
 use native.Mathlib.Omega.{arith}
 use native.Mathlib.Numerals.{add-one}
 use lib.ListN.{length, get_or, drop, drop_of_length-le}
 use lib.Seq.{drop-cons}
-use Rattle.common.specs.Sizes.{heads_width, term_limit}
+use Rattle.common.specs.Sizes.{heads_width}
 use Rattle.dictionary_layout.specs.declared.values.Digest.{Digest}
 use Rattle.dictionary_layout.specs.Terms.{Term, term}
 use Rattle.dictionary_layout.specs.Layout.{sum}
@@ -21,9 +21,6 @@ pub record Digesting (kind : ℕ) (bytes : List ℕ) (total hash i : ℕ) : Type
   pub hashed : hash_from hash (drop i bytes) ≡ hash_from kind bytes
 
 module _ {kind : ℕ} {bytes : List ℕ} where
-  pub digest_start : kind < 4294967296 → Digesting kind bytes kind kind 0
-  digest_start h = record { within = omega arith; small = omega arith; below = h; summed = refl; hashed = refl }
-
   pub digest_more : {total hash : ℕ} (i b : ℕ) → i < length bytes → b ≡ get_or bytes i 0 → b < 256
       → Digesting kind bytes total hash i → Digesting kind bytes (total + b) ((hash + b) * 2654435761 % 4294967296) (i + 1)
   unfolding hash_from
@@ -46,10 +43,6 @@ module _ {kind : ℕ} {bytes : List ℕ} where
       let s : total ≡ kind + sum bytes = omega (arith, d.summed, ap sum e) in
       let q : hash ≡ hash_from kind bytes = sym (ap (hash_from hash) e) ∙ d.hashed in
       λ j. record { chain = s j % 64; bucket = q j / 65536 }
-
-  pub digest_fits : {total hash : ℕ} (i : ℕ) → length bytes ≤ term_limit → Digesting kind bytes total hash i
-      → total ≤ kind + 255 * term_limit
-  digest_fits i h d = omega (arith, d.small, d.within)
 
 -- a bucket is below 65,536
 hash_below : (h : ℕ) (bytes : List ℕ) → h < 4294967296 → hash_from h bytes < 4294967296

@@ -4,6 +4,9 @@ use mathlib.Core.Bool.{Bool, true, false, ◌&&◌}
 use mathlib.Core.List.{List, [], ◌∷◌}
 use Prim.Native.Nat.{ℕ}
 use lib.Dec.{T, eqb, eqb→eq, eqb_refl}
+use lib.ListN.{length, replicate}
+use Rattle.std.specs.List.{list_all}
+use Rattle.std.specs.Cmp.Lexicographic.{pointwise}
 use Rattle.common.specs.Triples.{if}
 use Rattle.common.proofs.Lists.{and→, and←}
 use Rattle.dictionary_layout.specs.Terms.{Term}
@@ -60,3 +63,24 @@ same_dict→ d e h =
 -- equal rows pass the test
 pub same_rows : {r s : List ℕ} → r ≡ s → T (same_row r s)
 same_rows {r} e = subst (λ (x : List ℕ). T (same_row r x)) e (same_row_refl r)
+
+-- what `==` of two rows computes
+pub rows_equal : (r s : List ℕ) → pointwise eqb r s ≡ same_row r s
+rows_equal [] [] = refl
+rows_equal [] (b ∷ s) = refl
+rows_equal (a ∷ r) [] = refl
+rows_equal (a ∷ r) (b ∷ s) = go (eqb a b) (rows_equal r s)
+  where
+    go : (c : Bool) → pointwise eqb r s ≡ same_row r s → (c && pointwise eqb r s) ≡ if c (λ _. same_row r s) (λ _. false)
+    go true e = e
+    go false e = refl
+
+-- and what the test of each number of a row for zero does
+pub all_zero : (r : List ℕ) → list_all (λ x. eqb x 0) r ≡ same_row r (replicate (length r) 0)
+all_zero [] = refl
+all_zero (a ∷ r) = go (eqb a 0) (all_zero r)
+  where
+    go : (c : Bool) → list_all (λ x. eqb x 0) r ≡ same_row r (replicate (length r) 0)
+        → (c && list_all (λ x. eqb x 0) r) ≡ if c (λ _. same_row r (replicate (length r) 0)) (λ _. false)
+    go true e = e
+    go false e = refl

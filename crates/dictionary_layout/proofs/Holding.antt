@@ -6,7 +6,7 @@ use mathlib.Core.Option.{Option, some, none}
 use mathlib.Core.List.{List, [], ◌∷◌, ◌++◌, append_assoc, append-nil}
 use Prim.Native.Nat.{ℕ, zero, suc, ◌+◌, ◌-◌, ◌%◌, ◌≤◌}
 use native.Mathlib.Omega.{arith}
-use lib.Dec.{T, leb, eqb, leb→le, le→leb, eqb→eq}
+use lib.Dec.{T, leb, eqb, leb→le, eqb→eq}
 use lib.ListN.{length}
 use Rattle.common.specs.Triples.{if}
 use Rattle.common.specs.Sizes.{heads_width, entry_width, table_limit, arena_limit}
@@ -246,18 +246,6 @@ sized→ tl al h =
     let (c, m) = and→ (leb tl table_limit) (leb al arena_limit) l in
     record { low = leb→le heads_width tl a; whole = eqb→eq rest 0 b; high = leb→le tl table_limit c; arena = leb→le al arena_limit m }
 
-pub sized← : (tl al : ℕ) → WellSized tl al → T (sized tl al)
-sized← tl al s =
-    let rest = (tl - heads_width) % entry_width in
-    let limits = leb tl table_limit && leb al arena_limit in
-    and← (leb heads_width tl) (eqb rest 0 && limits) (le→leb heads_width tl s.low)
-    (and← (eqb rest 0) limits (eq→eqb rest 0 s.whole)
-    (and← (leb tl table_limit) (leb al arena_limit) (le→leb tl table_limit s.high) (le→leb al arena_limit s.arena)))
-
 pub start_fits→ : (tl al : ℕ) → T (start_fits tl al) → (start_table ≤ tl) × (start_bytes ≤ al)
 unfolding start_terms
 start_fits→ tl al h = let (a, b) = and→ (leb start_table tl) (leb start_bytes al) h in (leb→le start_table tl a, leb→le start_bytes al b)
-
-pub start_fits← : (tl al : ℕ) → start_table ≤ tl → start_bytes ≤ al → T (start_fits tl al)
-unfolding start_terms
-start_fits← tl al a b = and← (leb start_table tl) (leb start_bytes al) (le→leb start_table tl a) (le→leb start_bytes al b)

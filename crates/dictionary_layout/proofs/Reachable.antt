@@ -35,11 +35,6 @@ module _ (tl al : ℕ) where
   unfolding start_refusal
   refusal_4 n = sym (if_no (sized tl al) (λ _. if (start_fits tl al) (λ _. 0) (λ _. 7)) (λ _. 4) n)
 
-  pub refusal_7 : T (sized tl al) → (T (start_fits tl al) → ⊥) → 7 ≡ start_refusal tl al
-  unfolding start_refusal
-  refusal_7 s n =
-      sym (if_yes (sized tl al) (λ _. if (start_fits tl al) (λ _. 0) (λ _. 7)) (λ _. 4) s ∙ if_no (start_fits tl al) (λ _. 0) (λ _. 7) n)
-
   pub no_refusal : T (sized tl al) → T (start_fits tl al) → 0 ≡ start_refusal tl al
   unfolding start_refusal
   no_refusal s f =

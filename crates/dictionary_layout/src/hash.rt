@@ -10,24 +10,16 @@ use common::HEADS_WIDTH;
 // A chain for each head of a table.
 const CHAIN_COUNT: u64 = HEADS_WIDTH as u64;
 
-fn wide(x: u8) -> u64
-    ensures { result ≡ x }
-{
-    x as u64
-}
-
 pub fn digest(kind: u32, bytes: &[u8]) -> Digest
     requires { length bytes.now ≤ term_limit }
     ensures { result ≡ digest_of (term kind bytes.now) }
 {
-    let mut sum = kind as u64;
-    let mut hash = kind as u64;
-    let mut i = 0;
-    while i < bytes.len() {
-        let b = wide(bytes[i]);
+    let mut sum = u64::from(kind);
+    let mut hash = u64::from(kind);
+    for b in bytes {
+        let b = u64::from(*b);
         sum += b;
         hash = (hash + b) * 2654435761 % 4294967296;
-        i += 1;
     }
     Digest {
         chain: (sum % CHAIN_COUNT) as usize,

@@ -1,25 +1,27 @@
 -- An index over the terms of a dictionary: made, searched, and kept by a put. Assumes nothing.
 use mathlib.Core.Path.{◌≡◌, refl, sym, ◌∙◌, ap, subst}
-use mathlib.Core.Logic.{inl, inr, ◌≢◌}
+use mathlib.Core.Logic.{inl, inr}
 use mathlib.Core.List.{List, [], ◌∷◌, ◌++◌}
-use Prim.Native.Nat.{ℕ, ◌+◌, ◌-◌, ◌≤◌, ◌<◌}
+use Prim.Native.Nat.{ℕ, ◌+◌, ◌≤◌, ◌<◌}
 use native.Mathlib.Omega.{arith}
 use lib.Dec.{T}
 use lib.ListN.{length, get_or, replicate, length-replicate, get_or-append}
 use lib.Seq.{get_or-append_seam}
+use Rattle.common.specs.declared.Id.{Id}
+use Rattle.std.specs.Prelude.{Option, Some, None}
 use Rattle.common.specs.Sizes.{term_limit}
 use Rattle.common.specs.Last.{Last}
 use Rattle.common.proofs.Last.{last_rekey}
 use Rattle.dictionary_layout.specs.declared.values.Digest.{Digest}
 use Rattle.dictionary_layout.specs.Terms.{Term, no_term}
 use Rattle.dictionary_layout.specs.Layout.{Dict, layout, decode}
-use Rattle.dictionary_layout.specs.Dictionary.{same_term, term_of, abstract_put, valid}
+use Rattle.dictionary_layout.specs.Dictionary.{place_of, same_term, term_of, abstract_put, valid}
 use Rattle.dictionary_layout.specs.Digest.{bucket, bucket_count, digest_of}
 use Rattle.dictionary_layout.specs.Calls.{PutResult, put_gives}
-use Rattle.dictionary_entries.specs.Entries.{length_of, entry_term, id_below}
+use Rattle.dictionary_entries.specs.Entries.{length_of, entry_term, id_found}
 use Rattle.dictionary_hash.specs.Hashing.{bucket_of, term_hash_length, Hashed, linked, FindsEntry, Seekable, Hashable}
 use Rattle.dictionary_index.specs.Found.{term_refusal}
-use Rattle.dictionary_puts.specs.Indexed.{Indexed, Seeks, sought}
+use Rattle.dictionary_puts.specs.Indexed.{Indexed}
 use Rattle.dictionary_layout.proofs.Choice.{is_true}
 use Rattle.dictionary_layout.proofs.Equality.{same_term_refl}
 use Rattle.dictionary_layout.proofs.Decoding.{decode_layout, length_snoc}
@@ -28,7 +30,7 @@ use Rattle.dictionary_layout.proofs.Distinct.{absent←}
 use Rattle.dictionary_layout.proofs.Holding.{Added, Ways, put_cases, valid→}
 use Rattle.dictionary_layout.proofs.Reachable.{put_valid, put_keeps}
 use Rattle.dictionary_layout.proofs.Walking.{in_place}
-use Rattle.dictionary_entries.proofs.Putting.{kind_facts, found_none}
+use Rattle.dictionary_entries.proofs.Putting.{kind_facts}
 use Rattle.dictionary_entries.proofs.Reading.{count, lengths, entry, entry_names, entry_fits, term_short}
 use Rattle.dictionary_entries.proofs.Searching.{find_hit}
 use Rattle.dictionary_hash.proofs.Hashing.{hashed_none, hashed_more}
@@ -46,34 +48,31 @@ module _ (d : Dict) (v : T (valid d)) where
       record { empty = hashed_none wide z; fits = entry_fits d v; short = entry_short; few = (lengths d v).few }
 
 -- THE SEARCH
-pub seekable : {d : Dict} {hash : List ℕ} {t : Term} {x : ℕ} → Seeks d hash t x → Seekable d.table d.arena hash d.terms t x
-seekable {d} s =
-    let v = s.indexed.unbroken in
-    record { hashed = s.indexed.hashed; fits = entry_fits d v; few = (lengths d v).few; key = s.key; below = s.below }
-
-module _ (d : Dict) (v : T (valid d)) {t : Term} {r : ℕ} (f : FindsEntry d.table d.arena d.terms t r) where
+module _ (d : Dict) (v : T (valid d)) (t : Term) where
+  pub found_place : (r : Option Id) → FindsEntry d.table d.arena d.terms t r → id_found r ≡ place_of t (decode d)
   -- an entry that names the term
-  pub sought_found : r ≢ 0 → sought d t (r - 1)
-  sought_found n =
-      let (b, e) = f.found (omega arith) in
-      find_hit (record { unbroken = v; chained = refl }) (r - 1) (omega arith)
-      (is_true (same_term (entry_term d.table d.arena (r - 1)) t)
-      (subst (λ (x : Term). T (same_term x t)) (sym e) (same_term_refl t))) refl
-
+  found_place (Some i) f =
+      find_hit (record { unbroken = v; chained = refl }) i.0 f.0
+      (is_true (same_term (entry_term d.table d.arena i.0) t)
+      (subst (λ (x : Term). T (same_term x t)) (sym f.1) (same_term_refl t))) refl
   -- none does
-  pub sought_none : r ≡ 0 → sought d t d.terms
-  sought_none z =
-      found_none d.terms d.terms (id_below d.terms d.terms) refl (omega arith)
-      ∙ sym (absent← 0 t (decode d) (λ i. let (j, l, e) = in_place (decode d) t i in
-      let b : j < d.terms = omega (arith, count d v) in f.none z j b (entry_names d v j b ∙ e)))
+  found_place None f =
+      sym (absent← 0 t (decode d) (λ i. let (j, l, e) = in_place (decode d) t i in
+      let b : j < d.terms = omega (arith, count d v) in f j b (entry_names d v j b ∙ e)))
 
 -- ONE TERM, whose digest is given
 module _ {d : Dict} {hash : List ℕ} (x : Indexed d hash) (t : Term) (a : term_refusal t ≡ 0) {g : Digest} (e : g ≡ digest_of t) where
   bucket_small : g.bucket < bucket_count
   bucket_small = digest_bucket t (omega (arith, (kind_facts t (refusal_none t a).0).1)) e
 
-  pub seeks : Seeks d hash t g.bucket
-  seeks = record { indexed = x; key = ap (λ (y : Digest). y.bucket) e; below = bucket_small }
+  pub seekable : Seekable d.table d.arena hash d.terms t g.bucket
+  seekable = record {
+    hashed = x.hashed;
+    fits = entry_fits d x.unbroken;
+    few = (lengths d x.unbroken).few;
+    key = ap (λ (y : Digest). y.bucket) e;
+    below = bucket_small;
+  }
 
   -- the index has room for its entry
   pub index_room : (length hash ≡ term_hash_length) × (g.bucket < bucket_count) × (d.terms < bucket_count)

@@ -1,8 +1,8 @@
 -- Those of a list of terms that are not held, and their count. Assumes nothing.
-use mathlib.Core.Path.{◌≡◌, sym, ◌∙◌, ap}
+use mathlib.Core.Path.{◌≡◌, ◌∙◌, ap}
 use mathlib.Core.Option.{Option, some, none}
 use mathlib.Core.List.{List, [], ◌∷◌}
-use Prim.Native.Nat.{ℕ, ◌+◌, ◌≤◌, ◌<◌}
+use Prim.Native.Nat.{ℕ, ◌+◌, ◌≤◌}
 use native.Mathlib.Omega.{arith}
 use lib.Dec.{T}
 use lib.ListN.{length}
@@ -11,10 +11,8 @@ use Rattle.common.specs.Sizes.{term_limit}
 use Rattle.dictionary_layout.specs.Terms.{Term, property_term, membership_term, member_term, run_terms}
 use Rattle.dictionary_layout.specs.Layout.{Dict, sum, size, decode}
 use Rattle.dictionary_layout.specs.Dictionary.{place_of, valid}
-use Rattle.dictionary_entries.specs.Entries.{id_below}
 use Rattle.dictionary_run_terms.specs.Running.{count_at, counted, Countable}
 use Rattle.dictionary_entries.proofs.Reading.{lengths}
-use Rattle.dictionary_entries.proofs.Putting.{found_none, found_some}
 
 -- THOSE NOT HELD
 abbrev pub new_at : Option ℕ → Term → List Term → List Term
@@ -44,13 +42,13 @@ count_new ts (t ∷ r) c = go (place_of t ts) (count_new ts r)
     go none f = let (a, b) = f (record { terms = c.terms + 1; used = c.used + length t.bytes }) in (omega arith, omega arith)
 
 -- COUNTING ONE
-module _ (d : Dict) (v : T (valid d)) (t : Term) (c : Counters) (i : ℕ) (e : id_below i d.terms ≡ place_of t (decode d)) where
-  pub count_held : i < d.terms → c ≡ counted (decode d) t c
-  count_held h = ap (λ (o : Option ℕ). count_at o t c) (sym (found_some i d.terms (place_of t (decode d)) e h))
+module _ (ts : List Term) (t : Term) (c : Counters) where
+  pub count_held : {i : ℕ} → some i ≡ place_of t ts → c ≡ counted ts t c
+  count_held e = ap (λ (o : Option ℕ). count_at o t c) e
 
-  pub count_more : d.terms ≤ i → ◌≡◌ {A = Counters} (record { terms = c.terms + 1; used = c.used + length t.bytes })
-      (counted (decode d) t c)
-  count_more h = ap (λ (o : Option ℕ). count_at o t c) (sym (found_none i d.terms (place_of t (decode d)) e h))
+  pub count_more : none ≡ place_of t ts → ◌≡◌ {A = Counters} (record { terms = c.terms + 1; used = c.used + length t.bytes })
+      (counted ts t c)
+  count_more e = ap (λ (o : Option ℕ). count_at o t c) e
 
 -- by at most one term and its bytes
 pub counted_below : (ts : List Term) (t : Term) (c : Counters)

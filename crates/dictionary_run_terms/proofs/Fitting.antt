@@ -1,7 +1,6 @@
 -- The terms not held are put together or not at all: put exactly where all of them fit. Assumes nothing.
 use mathlib.Core.Path.{◌≡◌, refl, sym, ◌∙◌, ap, subst}
 use mathlib.Core.Logic.{◌⊎◌, inl, inr}
-use mathlib.Core.Bool.{false}
 use mathlib.Core.Option.{Option, some, none}
 use mathlib.Core.List.{List, [], ◌∷◌, ◌++◌, append_assoc, append-nil}
 use Prim.Native.Nat.{ℕ, suc, ◌+◌, ◌*◌, ◌≤◌, ◌<◌}
@@ -146,8 +145,12 @@ module _ (d : Dict) (v : T (valid d)) (c : Counters)
   together : PutsAll tl al (decode d) run_terms
   together = puts_all tl al (decode d) run_terms (holds_fits tl al (decode d) (held d v)) run_ready
 
-  pub run_no_entry : tl < heads_width + entry_width * c.terms → false ≡ is_all_put (put_all tl al (decode d) run_terms)
-  run_no_entry h = sym (ap is_all_put (together.fails (λ f. omega (arith, f.0, counts.0))))
+  pub run_no_entry : tl < heads_width + entry_width * c.terms
+      → leb (heads_width + entry_width * c.terms) tl ≡ is_all_put (put_all tl al (decode d) run_terms)
+  run_no_entry h =
+      let n = heads_width + entry_width * c.terms in
+      sym (is_false (leb n tl) (λ t. let q = leb→le n tl t in omega arith))
+      ∙ sym (ap is_all_put (together.fails (λ f. omega (arith, f.0, counts.0))))
 
   pub run_by_bytes : heads_width + entry_width * c.terms ≤ tl → leb c.used al ≡ is_all_put (put_all tl al (decode d) run_terms)
   run_by_bytes h = go (decide_bool (leb c.used al))

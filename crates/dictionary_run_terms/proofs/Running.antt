@@ -81,7 +81,17 @@ module _ (d : Dict) (v : T (valid d)) (b : AllFit d) where
   pub run_valid_2 : {e : Dict} → e ≡ layout l m q.held → T (valid e)
   run_valid_2 f = subst (λ (x : Dict). T (valid x)) (sym f) (valid_layout l m q.held q_holds)
 
-  -- are those that the definition gives
+  -- are accepted
+  pub run_accepted : (p.number ≡ 0) × (q.number ≡ 0) × (r.number ≡ 0)
+  unfolding run_terms
+  run_accepted =
+      let (us, e) = all_put_by (put_all l m (decode d) run_terms) b in
+      let (a, f) = put_all_one l m (decode d) property_term (membership_term ∷ member_term ∷ []) us e in
+      let (c, g) = put_all_one l m p.held membership_term (member_term ∷ []) us f in
+      let (h, k) = put_all_one l m q.held member_term [] us g in
+      (a, c, h)
+
+  -- and are those that the definition gives
   pub run_all_put : run_terms_result 0 (run_term_ids p.id q.id r.id) (layout l m r.held) ≡ run_terms_give d
   unfolding run_terms_give run_terms put_all
   run_all_put =

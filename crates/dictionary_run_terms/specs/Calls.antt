@@ -1,5 +1,8 @@
 -- What the put of a run's three terms gives, and what it leaves in the buffers that it is lent. Assumes nothing.
-use Rattle.std.specs.Prelude.{List, ℕ, length}
+use Rattle.std.specs.Prelude.{Result, Ok, Err, List, ℕ, length}
+use Rattle.common.specs.declared.refusal.Refusal.{Refusal}
+use Rattle.common.specs.Refusals.{number_of}
+use Rattle.dictionary_layout.specs.declared.values.Counters.{Counters}
 use Rattle.dictionary_layout.specs.Terms.{Term, property_term, membership_term, member_term, run_terms}
 use Rattle.dictionary_layout.specs.Layout.{Dict, layout, decode}
 use Rattle.dictionary_layout.specs.Dictionary.{place_of, id_of, AllPut, full, all_put, put_all}
@@ -34,6 +37,7 @@ run_terms_give d =
     let al = length d.arena in
     run_terms_laid tl al (decode d) (put_all tl al (decode d) run_terms)
 
--- the answer of the code, with the table and the arena as they are left
-abbrev pub run_terms_left : RunTerms → List ℕ → List ℕ → RunTermsResult
-run_terms_left r t a = run_terms_result r.number r.ids (contents t a r.counters)
+-- the answer of the code, which was given the counters c, with the table and the arena as they are left
+abbrev pub run_terms_left : Counters → Result RunTerms Refusal → List ℕ → List ℕ → RunTermsResult
+run_terms_left c (Ok r) t a = run_terms_result 0 r.ids (contents t a r.counters)
+run_terms_left c (Err e) t a = run_terms_result (number_of e) (run_term_ids 0 0 0) (contents t a c)

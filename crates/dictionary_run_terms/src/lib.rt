@@ -11,7 +11,7 @@ ghost use Rattle.dictionary_run_terms.specs.Calls.{run_terms_give, run_terms_lef
 ghost use Rattle.dictionary_run_terms.specs.Running.{counted, Countable, is_all_put};
 ghost use Rattle.dictionary_layout.specs.Values.{contents};
 
-use common::{ENTRY_WIDTH, HEADS_WIDTH, Id};
+use common::{ENTRY_WIDTH, HEADS_WIDTH, Refusal};
 use dictionary_entries::entry::find_term;
 use dictionary_index::put_valid;
 use dictionary_layout::Counters;
@@ -31,12 +31,12 @@ fn count_new(table: &[u32], arena: &[u8], counters: Counters, iri: &[u8], sum: C
         sum }
 {
     let chain = digest(1, iri).chain;
-    if find_term(table, arena, counters, 1, iri, chain) < counters.terms {
-        return sum;
-    }
-    Counters {
-        terms: sum.terms + 1,
-        used: sum.used + iri.len() as u32,
+    match find_term(table, arena, counters, 1, iri, chain) {
+        Some(_) => sum,
+        None => Counters {
+            terms: sum.terms + 1,
+            used: sum.used + iri.len() as u32,
+        },
     }
 }
 
@@ -49,45 +49,32 @@ fn run_terms_fit(table: &[u32], arena: &[u8], counters: Counters) -> bool
     let c = count_new(table, arena, counters, &PROPERTY, counters);
     let c = count_new(table, arena, counters, &MEMBERSHIP, c);
     let c = count_new(table, arena, counters, &MEMBER, c);
-    if table.len() < HEADS_WIDTH + ENTRY_WIDTH * (c.terms as usize) {
-        return false;
-    }
-    c.used as usize <= arena.len()
+    HEADS_WIDTH + ENTRY_WIDTH * (c.terms as usize) <= table.len() && c.used as usize <= arena.len()
 }
 
 // Puts rdf Property, rdfs ContainerMembershipProperty and rdfs member in a dictionary that is not broken, and leaves it so.
-pub fn put_run_terms(table: &mut [u32], arena: &mut [u8], counters: Counters) -> RunTerms
+pub fn put_run_terms(
+    table: &mut [u32],
+    arena: &mut [u8],
+    counters: Counters,
+) -> Result<RunTerms, Refusal>
     requires { T (valid (contents table.old arena.old counters)) }
-    ensures { run_terms_left result table.new arena.new
+    ensures { run_terms_left counters result table.new arena.new
         ≡ run_terms_give (contents table.old arena.old counters) }
 {
-    if run_terms_fit(table, arena, counters) {
-        let p = put_valid(table, arena, counters, 1, &PROPERTY);
-        let property = p.id;
-        let c = p.counters;
-        let q = put_valid(table, arena, c, 1, &MEMBERSHIP);
-        let membership = q.id;
-        let c = q.counters;
-        let r = put_valid(table, arena, c, 1, &MEMBER);
-        let member = r.id;
-        let c = r.counters;
-        return RunTerms {
-            number: 0,
-            ids: RunTermIds {
-                property,
-                membership,
-                member,
-            },
-            counters: c,
-        };
+    if !run_terms_fit(table, arena, counters) {
+        return Err(Refusal::DictionaryFull);
     }
-    RunTerms {
-        number: 7,
-        ids: RunTermIds {
-            property: Id(0),
-            membership: Id(0),
-            member: Id(0),
-        },
-        counters,
-    }
+    let p = put_valid(table, arena, counters, 1, &PROPERTY).unwrap();
+    let q = put_valid(table, arena, p.counters, 1, &MEMBERSHIP).unwrap();
+    let r = put_valid(table, arena, q.counters, 1, &MEMBER).unwrap();
+    let ids = RunTermIds {
+        property: p.id,
+        membership: q.id,
+        member: r.id,
+    };
+    Ok(RunTerms {
+        ids,
+        counters: r.counters,
+    })
 }

@@ -10,10 +10,9 @@ pub struct RunTermIds {
     pub member: Id,
 }
 
-// The refusal's number or 0, the ids, and the counters as they are afterwards.
+// Their ids, and the counters as they are afterwards.
 #[derive(Clone, Copy)]
 pub struct RunTerms {
-    pub number: u32,
     pub ids: RunTermIds,
     pub counters: Counters,
 }

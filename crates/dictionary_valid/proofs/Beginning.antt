@@ -5,14 +5,13 @@ use mathlib.Core.List.{List, [], ◌∷◌, ◌++◌, append_assoc}
 use Prim.Native.Nat.{ℕ, suc, ◌+◌, ◌*◌, ◌-◌, ◌≤◌, ◌<◌}
 use native.Mathlib.Omega.{arith}
 use lib.Dec.{T}
-use lib.ListN.{length, take, drop, replicate, take-append-drop}
+use lib.ListN.{length, take, drop, take-append-drop}
 use lib.Seq.{drop_at, take-append-add}
 use Rattle.common.specs.Sizes.{entry_width, heads_width}
 use Rattle.dictionary_layout.specs.Terms.{Term, start_terms, start_count, start_bytes}
 use Rattle.dictionary_layout.specs.Layout.{Dict, dict, chain, all_bytes, size, front, heads, entries, all_heads, all_entries, span}
 use Rattle.dictionary_layout.specs.Layout.{layout, read, decode, start_table, entry_at}
 use Rattle.dictionary_layout.specs.Dictionary.{same_row, holdable, valid}
-use Rattle.dictionary_entries.specs.Starting.{Blank}
 use Rattle.dictionary_valid.specs.Scanning.{named, Scanned, FreshStart, Begins}
 use Rattle.dictionary_layout.proofs.Choice.{true_false, true→T, false→not_T}
 use Rattle.dictionary_layout.proofs.Equality.{same_row→, same_rows}
@@ -48,7 +47,7 @@ all_bytes_begin (p ∷ ps) us z =
     ∙ (take-append-add p.bytes (all_bytes (ps ++ us) ++ z) (size ps) ∙ ap (λ (l : List ℕ). p.bytes ++ l) (all_bytes_begin ps us z))
 
 -- the numbers of the start's entries
-abbrev first_entries : List ℕ → List ℕ
+abbrev pub first_entries : List ℕ → List ℕ
 first_entries table = take (entry_width * start_count) (drop heads_width table)
 
 -- what every dictionary begins with
@@ -113,10 +112,11 @@ module _ {table arena fresh iris : List ℕ} (f : FreshStart table arena fresh i
         }
 
   -- the tests of the beginning
-  pub begins_other_entries : false ≡ same_row (first_entries table) (first_entries fresh) → Begins table arena fresh false
-  begins_other_entries e = record {
-    yes = λ p. true_false (sym p);
-    no = λ _ n used v. false→not_T (same_row (first_entries table) (first_entries fresh)) e
+  pub begins_other_entries : {r : Bool} → r ≡ same_row (first_entries table) (first_entries fresh) → r ≡ false
+      → Begins table arena fresh r
+  begins_other_entries e f = record {
+    yes = λ p. true_false (sym p ∙ f);
+    no = λ _ n used v. false→not_T (same_row (first_entries table) (first_entries fresh)) (sym f ∙ e)
         (same_rows (valid_entries (dict table arena n used) v ∙ sym fresh_entries));
   }
 
@@ -139,12 +139,3 @@ fresh_room {table} {arena} f =
     let (s, r) = refusal_none (length table) (length arena) f.accepted in
     let (a, b) = start_fits→ (length table) (length arena) r in
     (a, b, ap (λ (l : List ℕ). length l) f.entries, ap (λ (l : List ℕ). length l) f.bytes)
-
--- a fresh dictionary is made in zeros
-pub blank_fresh : Blank (replicate start_table 0) (replicate start_bytes 0)
-blank_fresh =
-    record {
-      room = record { entries = omega arith; table_short = omega arith; bytes = omega arith; arena_short = omega arith };
-      table_zero = refl;
-      arena_zero = refl;
-    }

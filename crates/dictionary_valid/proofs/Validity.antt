@@ -97,7 +97,7 @@ module _ {table arena heads : List ℕ} {n at : ℕ} (s : Scanned table arena he
           ((sym e ∙ s.used) i))
 
 -- THE TESTS OF THE END
-abbrev rest_of : ℕ → List ℕ → List ℕ
+abbrev pub rest_of : ℕ → List ℕ → List ℕ
 rest_of n a = take (length a - n) (drop n a)
 
 -- from a place on a row is zero

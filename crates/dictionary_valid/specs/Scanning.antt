@@ -1,6 +1,6 @@
 -- Entries scanned one after the other: for the contracts of the functions that the test for a broken dictionary is made of. Assumes
 -- nothing.
-use Rattle.std.specs.Prelude.{◌≡◌, Bool, true, false, List, ℕ, ◌+◌, ◌*◌, ◌≤◌, ◌<◌, T, length, take, drop}
+use Rattle.std.specs.Prelude.{◌≡◌, Bool, true, false, List, ℕ, ◌+◌, ◌*◌, ◌≤◌, ◌<◌, T, length, take, drop, Option, MatchOption}
 use Rattle.common.specs.Sizes.{heads_width, entry_width, term_limit}
 use Rattle.dictionary_layout.specs.Terms.{Term, start_terms, start_count, start_bytes}
 use Rattle.dictionary_layout.specs.Layout.{dict, size, all_bytes, all_heads, all_entries, span, entry_at, start_table, layout, read}
@@ -30,11 +30,6 @@ pub record Scanning (table arena heads hash : List ℕ) (k at : ℕ) : Type 0 wh
 abbrev pub Broken : List ℕ → List ℕ → ℕ → Type 0
 Broken table arena n = (used : ℕ) → T (valid (dict table arena n used)) → ⊥
 
--- r decides whether a fact holds
-pub record Decides (P : Type 0) (r : Bool) : Type 0 where
-  pub yes : r ≡ true → P
-  pub no : r ≡ false → P → ⊥
-
 -- the numbers of entry k are those of a term whose bytes begin at a place of the arena
 pub record Follows (table arena : List ℕ) (k at : ℕ) : Type 0 where
   pub start : start_of table k ≡ at
@@ -43,15 +38,15 @@ pub record Follows (table arena : List ℕ) (k at : ℕ) : Type 0 where
   pub low : 1 ≤ kind_of table k
   pub high : kind_of table k ≤ 3
 
--- what one entry more comes to
-pub record CheckedNext (table arena heads hash : List ℕ) (k : ℕ) (ok : Bool) (end : ℕ) : Type 0 where
-  pub yes : ok ≡ true → Scanned table arena heads (k + 1) end × Hashed table arena hash (k + 1)
-  pub no : ok ≡ false → (n : ℕ) → k < n → Broken table arena n
+-- what one entry more comes to: where its bytes end, or no dictionary has it so
+abbrev pub CheckedNext : List ℕ → List ℕ → List ℕ → List ℕ → ℕ → Option ℕ → Type 0
+CheckedNext table arena heads hash k r =
+    MatchOption r ((n : ℕ) → k < n → Broken table arena n)
+    (λ end. Scanned table arena heads (k + 1) end × Hashed table arena hash (k + 1))
 
 -- what all entries come to
-pub record CheckedAll (table arena heads : List ℕ) (n : ℕ) (ok : Bool) (end : ℕ) : Type 0 where
-  pub yes : ok ≡ true → Scanned table arena heads n end
-  pub no : ok ≡ false → Broken table arena n
+abbrev pub CheckedAll : List ℕ → List ℕ → List ℕ → ℕ → Option ℕ → Type 0
+CheckedAll table arena heads n r = MatchOption r (Broken table arena n) (λ end. Scanned table arena heads n end)
 
 -- the start's entries were scanned and hashed
 pub record Scannable (table arena heads hash : List ℕ) (n : ℕ) : Type 0 where

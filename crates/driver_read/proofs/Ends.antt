@@ -1,37 +1,16 @@
--- Where the lines of a file end, and the lines that are left from a place on. Assumes nothing.
-use mathlib.Core.Path.{◌≡◌, sym, ◌∙◌, ap, subst}
-use mathlib.Core.Logic.{◌≢◌}
+-- The lines of a file that are left from a place on. Assumes nothing.
+use mathlib.Core.Path.{◌≡◌, sym, ◌∙◌, ap}
 use mathlib.Core.List.{List, [], ◌∷◌}
 use Prim.Native.Nat.{ℕ, ◌+◌, ◌-◌, ◌≤◌, ◌<◌}
 use native.Mathlib.Omega.{arith}
 use native.Mathlib.Decide.{dec_lt}
-use lib.Dec.{T, leb, le→leb, leb→le}
-use lib.ListN.{length, get_or, take, drop}
-use borrow.Author.Tests.{ne_eqb}
+use lib.Dec.{leb, le→leb, leb→le}
+use lib.ListN.{length, take, drop}
 use Rattle.common.specs.Triples.{if}
 use Rattle.dictionary_layout.proofs.Choice.{if_yes, if_no}
-use Rattle.ntriples.specs.Characters.{line_end}
-use Rattle.ntriples.specs.Files.{Clear}
 use Rattle.ntriples.specs.Reading.{lines}
 use Rattle.ntriples.proofs.Lines.{line_here, line_last}
 use Rattle.driver_read.specs.Lines.{LineEnds}
-
--- a line feed and a carriage return end a line, and nothing else does
-pub feed_ends : {b : ℕ} → b ≡ 10 → T (line_end b)
-feed_ends e = subst (λ (x : ℕ). T (line_end x)) (sym e) tt
-
-pub return_ends : {b : ℕ} → b ≡ 13 → T (line_end b)
-return_ends e = subst (λ (x : ℕ). T (line_end x)) (sym e) tt
-
-pub no_other_ends : {b : ℕ} → b ≢ 10 → b ≢ 13 → T (line_end b) → ⊥
-no_other_ends {b} m n t = simp (ne_eqb b 10 m, ne_eqb b 13 n) at t
-
--- THE LINE ENDS here, or with the file
-pub ends_here : {file : List ℕ} {at e : ℕ} → Clear file at e → T (line_end (get_or file e 0)) → LineEnds file at e
-ends_here c t = record { clear = c; ends = λ _. t }
-
-pub ends_last : {file : List ℕ} {at e : ℕ} → Clear file at e → length file ≤ e → LineEnds file at e
-ends_last c n = record { clear = c; ends = λ l. absurd (omega arith) }
 
 -- THE LINES LEFT from a place on; none behind the last
 abbrev pub left : List ℕ → ℕ → List (List ℕ)

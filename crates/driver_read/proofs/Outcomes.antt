@@ -8,19 +8,16 @@ use lib.ListN.{length}
 use Rattle.common.specs.Sizes.{load_width}
 use Rattle.common.specs.Triples.{Triple, if}
 use Rattle.common.specs.Values.{triple_of}
+use Rattle.common.specs.declared.Triple as declared
+use Rattle.std.specs.Prelude.{Option as Maybe, Some, None}
 use Rattle.dictionary_layout.specs.declared.values.Counters.{Counters}
 use Rattle.dictionary_layout.specs.Layout.{Dict, decode}
 use Rattle.dictionary_layout.specs.Values.{contents}
 use Rattle.dictionary_layout.proofs.Choice.{if_yes, if_no}
-use Rattle.ntriples.specs.Grammar.{Terms, Line, nothing, says, bad, line}
+use Rattle.ntriples.specs.Grammar.{Terms, Line, says, line}
 use Rattle.ntriples.specs.Reading.{line_limit, Outcome, refused, read, all_short, fits, on_put, read_line, on_read, read_lines}
-use Rattle.ntriples_lines.specs.declared.Said.{Said}
-use Rattle.ntriples_lines.specs.declared.Said.TheVariants.{Nothing, Triple as TripleAt, Bad as BadLine}
-use Rattle.ntriples_lines.specs.Promises.{said_of, SaidWithin, Says}
 use Rattle.driver_read.specs.declared.values.LineIds.{LineIds}
-use Rattle.driver_read.specs.declared.values.LineTerms.{LineTerms}
 use Rattle.driver_read.specs.declared.values.ReadNext.{ReadNext}
-use Rattle.driver_read.specs.Lines.{Ordered, terms_at}
 use Rattle.driver_read.specs.Lines.{Kept, put_as, PutsTerms, so_far, Rows, cap, Added, Unadded, Between, said_comes, line_comes}
 use Rattle.driver_read.specs.Lines.{lines_come, outcome_of, ComesTo}
 use Rattle.driver_read.proofs.Ends.{left}
@@ -72,18 +69,14 @@ module _ (d : Dict) (load : List ℕ) (k : ℕ) (t : Terms) where
     abbrev e : Dict
     e = contents table arena ids'.counters
 
-    on_puts : said ≡ on_put (cap load) (so_far load k) t (put_as ids'.number e)
+    on_puts : said ≡ on_put (cap load) (so_far load k) t (put_as ids'.triple e)
     on_puts = if_yes (all_short t) _ _ s ∙ ap (on_put (cap load) (so_far load k) t) p.puts
 
     -- not all of them
-    says_full : ids'.number ≢ 0 → said ≡ refused 7
-    says_full n = on_puts ∙ go ids'.number n
-      where
-        go : (n : ℕ) → n ≢ 0 → on_put (cap load) (so_far load k) t (put_as n e) ≡ refused 7
-        go zero n = absurd (n refl)
-        go (suc m) n = refl
+    says_full : ids'.triple ≡ None → said ≡ refused 7
+    says_full n = on_puts ∙ ap (λ (x : Maybe declared.Triple). on_put (cap load) (so_far load k) t (put_as x e)) n
 
-    pub comes_full : Rows load k → ids'.number ≢ 0 → ComesTo said d table arena hash load (answer 7 k ids'.counters)
+    pub comes_full : Rows load k → ids'.triple ≡ None → ComesTo said d table arena hash load (answer 7 k ids'.counters)
     comes_full r n = record {
       outcome = sym (says_full n);
       between = record { indexed = p.indexed; rows = r };
@@ -91,33 +84,33 @@ module _ (d : Dict) (load : List ℕ) (k : ℕ) (t : Terms) where
     }
 
     -- all of them
-    says_put : ids'.number ≡ 0
-        → said ≡ if (fits (cap load) (so_far load k)) (λ _. read (decode e) (so_far load k ++ (triple_of ids'.triple ∷ [])))
-        (λ _. refused 3)
-    says_put z =
-        on_puts
-        ∙ (ap (λ (n : ℕ). on_put (cap load) (so_far load k) t (put_as n e)) z
-        ∙ ap (λ (x : Triple). if (fits (cap load) (so_far load k)) (λ _. read (decode e) (so_far load k ++ (x ∷ []))) (λ _. refused 3))
-        (sym (p.named z)))
+    module _ {y : declared.Triple} (z : ids'.triple ≡ Some y) where
+      says_put : said ≡ if (fits (cap load) (so_far load k)) (λ _. read (decode e) (so_far load k ++ (triple_of y ∷ [])))
+          (λ _. refused 3)
+      says_put =
+          on_puts
+          ∙ (ap (λ (x : Maybe declared.Triple). on_put (cap load) (so_far load k) t (put_as x e)) z
+          ∙ ap (λ (x : Triple). if (fits (cap load) (so_far load k)) (λ _. read (decode e) (so_far load k ++ (x ∷ []))) (λ _. refused 3))
+          (sym (p.named y z)))
 
-    -- without room for the triple
-    pub comes_out : {new : List ℕ} → Rows load k → ids'.number ≡ 0 → Unadded load k new
-        → ComesTo said d table arena hash new (answer 3 k ids'.counters)
-    comes_out r z u =
-        subst (λ (l : List ℕ). ComesTo said d table arena hash l (answer 3 k ids'.counters)) (sym u.same) (record {
-          outcome = sym (says_put z ∙ if_no (fits (cap load) (so_far load k)) _ _ u.no_room);
-          between = record { indexed = p.indexed; rows = r };
-          kept = p.kept;
-        })
+      -- without room for the triple
+      pub comes_out : {new : List ℕ} → Rows load k → Unadded load k new
+          → ComesTo said d table arena hash new (answer 3 k ids'.counters)
+      comes_out r u =
+          subst (λ (l : List ℕ). ComesTo said d table arena hash l (answer 3 k ids'.counters)) (sym u.same) (record {
+            outcome = sym (says_put ∙ if_no (fits (cap load) (so_far load k)) _ _ u.no_room);
+            between = record { indexed = p.indexed; rows = r };
+            kept = p.kept;
+          })
 
-    -- and with room
-    pub comes_in : {new : List ℕ} → ids'.number ≡ 0 → Added load k (triple_of ids'.triple) new
-        → ComesTo said d table arena hash new (answer 0 (k + 1) ids'.counters)
-    comes_in z a = record {
-      outcome = ap (read (decode e)) a.more ∙ sym (says_put z ∙ if_yes (fits (cap load) (so_far load k)) _ _ a.room);
-      between = record { indexed = p.indexed; rows = a.rows };
-      kept = p.kept;
-    }
+      -- and with room
+      pub comes_in : {new : List ℕ} → Added load k (triple_of y) new
+          → ComesTo said d table arena hash new (answer 0 (k + 1) ids'.counters)
+      comes_in a = record {
+        outcome = ap (read (decode e)) a.more ∙ sym (says_put ∙ if_yes (fits (cap load) (so_far load k)) _ _ a.room);
+        between = record { indexed = p.indexed; rows = a.rows };
+        kept = p.kept;
+      }
 
 -- A LINE: too long, or what it says
 module _ (d : Dict) (load : List ℕ) (k : ℕ) (l : List ℕ) where
@@ -128,25 +121,6 @@ module _ (d : Dict) (load : List ℕ) (k : ℕ) (l : List ℕ) where
   pub line_said : {s : Line} → (T (ltb line_limit (length l)) → ⊥) → s ≡ line l → line_comes d load k l ≡ said_comes d load k s
   unfolding read_line
   line_said h e = if_no (ltb line_limit (length l)) _ _ h ∙ ap (said_comes d load k) (sym e)
-
--- what the reader of a line answered
-abbrev line_terms : ℕ → ℕ → ℕ → ℕ → ℕ → LineTerms
-line_terms k a b l c = record { sk = k; se = a; pe = b; ok = l; oe = c }
-
-module _ {s : Line} {r : Said} {out : List ℕ} (x : Says s r out) where
-  pub said_nothing : r ≡ Nothing → nothing ≡ s
-  said_nothing e = ap (λ (y : Said). said_of y out) (sym e) ∙ x.said_is
-
-  pub said_bad : r ≡ BadLine → bad ≡ s
-  said_bad e = ap (λ (y : Said). said_of y out) (sym e) ∙ x.said_is
-
-  pub said_triple : {k a b l c : ℕ} → r ≡ TripleAt k a b l c → says (terms_at (line_terms k a b l c) out) ≡ s
-  said_triple e = ap (λ (y : Said). said_of y out) (sym e) ∙ x.said_is
-
-  pub said_ordered : {k a b l c : ℕ} → r ≡ TripleAt k a b l c → Ordered (line_terms k a b l c) out
-  said_ordered e =
-      let o = subst (λ (y : Said). SaidWithin y out) e x.ordered in
-      record { s_p = o.0; p_o = o.1; within = o.2 }
 
 -- ALL LINES: the state at the head of the loop, with the lines that are left
 pub record Reading (o : Outcome) (d : Dict) (table arena hash load : List ℕ) (next : ReadNext) (ls : List (List ℕ)) : Type 0 where

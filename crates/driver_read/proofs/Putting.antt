@@ -1,23 +1,23 @@
 -- The terms of a line, put one after the other: what is held, the ids, and the first that has no room. Assumes nothing.
 use mathlib.Core.Path.{◌≡◌, refl, sym, ◌∙◌, ap, subst}
 use mathlib.Core.Logic.{◌⊎◌, inl, inr, ◌≢◌}
-use mathlib.Core.Bool.{Bool, true, false, ◌&&◌}
 use mathlib.Core.Option.{some}
 use mathlib.Core.List.{List, [], ◌∷◌}
-use Prim.Native.Nat.{ℕ, zero, suc, ◌-◌, ◌≤◌}
+use Prim.Native.Nat.{ℕ, zero, suc, ◌≤◌}
 use native.Mathlib.Omega.{arith}
-use lib.Dec.{T, leb, leb→le, le→leb}
-use lib.ListN.{length, take, drop, length-append, length-drop}
-use lib.Seq.{take_at, take_all, take-take, length-take-le}
-use Rattle.common.specs.Sizes.{term_limit}
+use lib.Dec.{T}
+use lib.ListN.{length, take, length-append}
+use lib.Seq.{take_at, take_all, take-take}
 use Rattle.common.specs.Triples.{triple}
+use Rattle.common.specs.Values.{triple_of}
+use Rattle.common.specs.declared.Triple as declared
+use Rattle.std.specs.Prelude.{Option as Maybe, Some, None}
+use Rattle.dictionary_layout.specs.declared.values.Counters.{Counters}
 use Rattle.dictionary_layout.specs.Terms.{Term}
 use Rattle.dictionary_layout.specs.Layout.{Dict, layout, decode}
 use Rattle.dictionary_layout.specs.Dictionary.{place_of, id_of, PutAnswer, abstract_put, full, all_put, if_zero, put_all, valid}
 use Rattle.dictionary_layout.specs.Calls.{PutResult, put_result, put_gives}
 use Rattle.dictionary_layout.specs.Values.{contents}
-use Rattle.common.proofs.Lists.{and→, and←}
-use Rattle.dictionary_layout.proofs.Choice.{is_true, is_false}
 use Rattle.dictionary_layout.proofs.Decoding.{decode_layout, layout_table, layout_arena}
 use Rattle.dictionary_layout.proofs.Holding.{Added, put_cases, holds_put, holds_fits}
 use Rattle.dictionary_layout.proofs.Reachable.{put_valid}
@@ -25,11 +25,9 @@ use Rattle.dictionary_entries.proofs.Reading.{held, count}
 use Rattle.dictionary_run_terms.proofs.Places.{put_place, place_kept}
 use Rattle.dictionary_puts.specs.Indexed.{Indexed}
 use Rattle.ntriples.specs.Grammar.{Terms}
-use Rattle.ntriples.specs.Reading.{in_order, all_short}
-use Rattle.ntriples_tokens.specs.Promises.{part}
+use Rattle.ntriples.specs.Reading.{in_order}
 use Rattle.driver_read.specs.declared.values.LineIds.{LineIds}
-use Rattle.driver_read.specs.declared.values.LineTerms.{LineTerms}
-use Rattle.driver_read.specs.Lines.{Ordered, terms_at, Kept, put_as, PutsTerms}
+use Rattle.driver_read.specs.Lines.{Kept, put_as, PutsTerms}
 
 -- WHAT WAS HELD: all of it, and through two steps
 pub kept_all : {d : Dict} → T (valid d) → Kept d d
@@ -123,78 +121,39 @@ module _ {d e : Dict} {hash hash' : List ℕ} (x : Indexed d hash) (y : Indexed 
   pub put_others : (u : Term) {j : ℕ} → place_of u (decode d) ≡ some j → place_of u (decode e) ≡ some j
   put_others u {j} s = ap (place_of u) held_is ∙ place_kept tl al (decode d) t u j s
 
--- THE THREE, by an answer that is another's
-pub answered_as : {d : Dict} {t : Terms} {table arena hash : List ℕ} {r s : LineIds} → r ≡ s → PutsTerms d t table arena hash s
-    → PutsTerms d t table arena hash r
-answered_as {d} {t} {table} {arena} {hash} e x = subst (PutsTerms d t table arena hash) (sym e) x
-
--- one has no room
+-- THE THREE: one has no room
 pub not_put : {d : Dict} {t : Terms} {table arena hash : List ℕ} {r : LineIds} → Indexed (contents table arena r.counters) hash
-    → Kept d (contents table arena r.counters) → r.number ≡ 7
+    → Kept d (contents table arena r.counters) → r.triple ≡ None
     → put_all (length d.table) (length d.arena) (decode d) (in_order t) ≡ full → PutsTerms d t table arena hash r
 not_put {d} {t} {table} {arena} {hash} {r} x k n e = record {
   indexed = x;
   kept = k;
-  puts = e ∙ ap (λ (m : ℕ). put_as m (contents table arena r.counters)) (sym n);
-  named = λ z. absurd (omega arith);
+  puts = e ∙ ap (λ (m : Maybe declared.Triple). put_as m (contents table arena r.counters)) (sym n);
+  named = λ y z. cc;
 }
 
+pub no_room_left : {d : Dict} {t : Terms} {table arena hash : List ℕ} {r : LineIds} {c : Counters}
+    → r ≡ record { triple = None; counters = c } → Indexed (contents table arena c) hash → Kept d (contents table arena c)
+    → put_all (length d.table) (length d.arena) (decode d) (in_order t) ≡ full → PutsTerms d t table arena hash r
+no_room_left {d} {t} {table} {arena} {hash} e x k n = subst (PutsTerms d t table arena hash) (sym e) (not_put x k refl n)
+
 -- all are put, with these ids
-pub are_put : {d : Dict} {t : Terms} {table arena hash : List ℕ} {r : LineIds} → Indexed (contents table arena r.counters) hash
-    → Kept d (contents table arena r.counters) → r.number ≡ 0
+pub are_put : {d : Dict} {t : Terms} {table arena hash : List ℕ} {r : LineIds} {x : declared.Triple}
+    → Indexed (contents table arena r.counters) hash → Kept d (contents table arena r.counters) → r.triple ≡ Some x
     → put_all (length d.table) (length d.arena) (decode d) (in_order t) ≡ all_put (decode (contents table arena r.counters))
-    → place_of t.s (decode (contents table arena r.counters)) ≡ some r.triple.s.0
-    → place_of t.p (decode (contents table arena r.counters)) ≡ some r.triple.p.0
-    → place_of t.o (decode (contents table arena r.counters)) ≡ some r.triple.o.0 → PutsTerms d t table arena hash r
-are_put {d} {t} {table} {arena} {hash} {r} x k n e f g h = record {
-  indexed = x;
+    → place_of t.s (decode (contents table arena r.counters)) ≡ some x.s.0
+    → place_of t.p (decode (contents table arena r.counters)) ≡ some x.p.0
+    → place_of t.o (decode (contents table arena r.counters)) ≡ some x.o.0 → PutsTerms d t table arena hash r
+are_put {d} {t} {table} {arena} {hash} {r} {x} i k n e f g h = record {
+  indexed = i;
   kept = k;
-  puts = e ∙ ap (λ (m : ℕ). put_as m (contents table arena r.counters)) (sym n);
-  named = λ z i. triple (id_of (sym f i)) (id_of (sym g i)) (id_of (sym h i));
+  puts = e ∙ ap (λ (m : Maybe declared.Triple). put_as m (contents table arena r.counters)) (sym n);
+  named = λ y z.
+      let same : x ≡ y = cc in
+      ap triple_of (sym same) ∙ λ j. triple (id_of (sym f j)) (id_of (sym g j)) (id_of (sym h j));
 }
 
 -- none are left to put
 pub put_end : (d : Dict) → put_all (length d.table) (length d.arena) (decode d) [] ≡ all_put (decode d)
 unfolding put_all
 put_end d = refl
-
--- WHETHER THEY ARE SHORT, by the places after their bytes
-module _ {t : LineTerms} {out : List ℕ} (o : Ordered t out) where
-  abbrev Short : Type 0
-  Short = (t.se ≤ term_limit) × (t.pe - t.se ≤ term_limit) × (t.oe - t.pe ≤ term_limit)
-
-  s_long : length (take t.se out) ≡ t.se
-  s_long = length-take-le t.se out (omega (arith, o.s_p, o.p_o, o.within))
-
-  p_long : length (part out t.se t.pe) ≡ t.pe - t.se
-  p_long = length-take-le (t.pe - t.se) (drop t.se out) (omega (arith, length-drop t.se out, o.s_p, o.p_o, o.within))
-
-  o_long : length (part out t.pe t.oe) ≡ t.oe - t.pe
-  o_long = length-take-le (t.oe - t.pe) (drop t.pe out) (omega (arith, length-drop t.pe out, o.p_o, o.within))
-
-  abbrev sb : Bool
-  sb = leb (length (take t.se out)) term_limit
-
-  abbrev pb : Bool
-  pb = leb (length (part out t.se t.pe)) term_limit
-
-  abbrev ob : Bool
-  ob = leb (length (part out t.pe t.oe)) term_limit
-
-  short→ : T (all_short (terms_at t out)) → Short
-  short→ h =
-      let (a, k) = and→ sb (pb && ob) h in
-      let (b, c) = and→ pb ob k in (
-        omega (arith, s_long, leb→le (length (take t.se out)) term_limit a),
-        omega (arith, p_long, leb→le (length (part out t.se t.pe)) term_limit b),
-        omega (arith, o_long, leb→le (length (part out t.pe t.oe)) term_limit c),
-      )
-
-  pub not_short : (Short → ⊥) → false ≡ all_short (terms_at t out)
-  not_short n = is_false (all_short (terms_at t out)) (λ h. n (short→ h))
-
-  pub are_short : t.se ≤ term_limit → t.pe - t.se ≤ term_limit → t.oe - t.pe ≤ term_limit → true ≡ all_short (terms_at t out)
-  are_short a b c =
-      is_true (all_short (terms_at t out)) (and← sb (pb && ob) (le→leb (length (take t.se out)) term_limit (omega (arith, s_long)))
-      (and← pb ob (le→leb (length (part out t.se t.pe)) term_limit (omega (arith, p_long)))
-      (le→leb (length (part out t.pe t.oe)) term_limit (omega (arith, o_long)))))

@@ -1,24 +1,22 @@
 -- The buffers between two lines, and what a line, or all lines that are left, come to in them: for the contracts of the functions that a
 -- read is made of. Assumes nothing.
 use Rattle.std.specs.Prelude.{◌≡◌, Bool, true, false, List, [], ◌∷◌, ◌++◌, ℕ, ◌+◌, ◌*◌, ◌/◌, ◌≤◌, ◌<◌, T, length, get_or, take}
+use Rattle.std.specs.Prelude.{Option as Maybe, Some, None}
 use Rattle.common.specs.Sizes.{load_width}
 use Rattle.common.specs.Triples.{Triple}
 use Rattle.common.specs.Rows.{triples, cleared}
 use Rattle.common.specs.Values.{triple_of}
-use Rattle.dictionary_layout.specs.Terms.{term}
+use Rattle.common.specs.declared.Triple as declared
 use Rattle.dictionary_layout.specs.Layout.{Dict, decode}
 use Rattle.dictionary_layout.specs.Dictionary.{AllPut, full, all_put, if_zero, put_all}
 use Rattle.dictionary_layout.specs.Values.{contents}
 use Rattle.dictionary_puts.specs.Indexed.{Indexed}
 use Rattle.ntriples.specs.Characters.{line_end}
 use Rattle.ntriples.specs.Files.{Clear}
-use Rattle.ntriples.specs.Grammar.{Terms, terms, Line}
+use Rattle.ntriples.specs.Grammar.{Terms, Line}
 use Rattle.ntriples.specs.Reading.{line_limit, Outcome, refused, read, in_order, ids, fits, on_said, read_line, read_lines}
-use Rattle.ntriples_tokens.specs.Promises.{part}
 use Rattle.ntriples_lines.specs.Promises.{plain_width}
-use Rattle.dictionary_layout.specs.declared.values.Counters.{Counters}
 use Rattle.driver_read.specs.declared.values.LineIds.{LineIds}
-use Rattle.driver_read.specs.declared.values.LineTerms.{LineTerms}
 use Rattle.driver_read.specs.declared.values.ReadNext.{ReadNext}
 
 -- THE LINE that begins at `at` ends at r
@@ -31,23 +29,6 @@ pub record Work (chars out : List ℕ) : Type 0 where
   pub characters : line_limit ≤ length chars
   pub written : 4 * line_limit + plain_width ≤ length out
 
--- A LINE'S TERMS, their bytes one behind the other
-pub record Ordered (t : LineTerms) (out : List ℕ) : Type 0 where
-  pub s_p : t.se ≤ t.pe
-  pub p_o : t.pe ≤ t.oe
-  pub within : t.oe ≤ length out
-
-abbrev pub terms_at : LineTerms → List ℕ → Terms
-terms_at t out = terms (term t.sk (take t.se out)) (term 1 (part out t.se t.pe)) (term t.ok (part out t.pe t.oe))
-
--- their ids
-abbrev pub line_ids : ℕ → ℕ → ℕ → ℕ → Counters → LineIds
-line_ids n s p o c = record {
-  number = n;
-  triple = record { s = record { 0 = s }; p = record { 0 = p }; o = record { 0 = o } };
-  counters = c;
-}
-
 -- what was held is held still, in buffers as long as before
 pub record Kept (d e : Dict) : Type 0 where
   pub table : length e.table ≡ length d.table
@@ -56,15 +37,16 @@ pub record Kept (d e : Dict) : Type 0 where
   pub first : take d.terms (decode e) ≡ decode d
 
 -- all of them put, with their ids, or not
-abbrev pub put_as : ℕ → Dict → AllPut
-put_as n e = if_zero n (λ _. all_put (decode e)) (λ _. full)
+abbrev pub put_as : Maybe declared.Triple → Dict → AllPut
+put_as (Some x) e = all_put (decode e)
+put_as None e = full
 
 pub record PutsTerms (d : Dict) (t : Terms) (table arena hash : List ℕ) (r : LineIds) : Type 0 where
   pub indexed : Indexed (contents table arena r.counters) hash
   pub kept : Kept d (contents table arena r.counters)
   pub puts : put_all (length d.table) (length d.arena) (decode d) (in_order t)
-      ≡ put_as r.number (contents table arena r.counters)
-  pub named : r.number ≡ 0 → triple_of r.triple ≡ ids (decode (contents table arena r.counters)) t
+      ≡ put_as r.triple (contents table arena r.counters)
+  pub named : (x : declared.Triple) → r.triple ≡ Some x → triple_of x ≡ ids (decode (contents table arena r.counters)) t
 
 -- THE LOAD between two lines: k triples, then zeros
 abbrev pub so_far : List ℕ → ℕ → List Triple

@@ -1,7 +1,7 @@
 // Reading a file of RDF 1.1 N-Triples, REFERENCE 3.5: its terms into the dictionary, its triples into the load, for all inputs.
 #![tactic(auto)]
 
-mod values; // values.rt: what reading a file answers, a line's terms, and what they come to
+mod values; // values.rt: what reading a file answers, and what a line's terms come to
 mod triple; // triple.rt: a line's triple
 mod lines; // lines.rt: the lines one after the other
 

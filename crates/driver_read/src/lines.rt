@@ -5,7 +5,7 @@ ghost use Rattle.ntriples.specs.Reading.{lines};
 ghost use Rattle.driver_read.specs.Lines.{Work, Between, LineEnds, line_comes, lines_come, ComesTo};
 
 use crate::triple::read_triple;
-use crate::values::{LineTerms, ReadNext, read_next};
+use crate::values::{ReadNext, read_next};
 use ntriples_lines::{LINE_LIMIT, Said, line};
 
 // Where the line that begins at a place ends: at the next end of a line, or of the file.
@@ -13,18 +13,12 @@ fn line_end(file: &[u8], at: usize) -> usize
     requires { at ≤ length file.now }
     ensures { LineEnds file.now at result }
 {
-    let mut end = at;
-    while end < file.len() {
-        let b = file[end];
-        if b == 10 {
+    for end in at..file.len() {
+        if matches!(file[end], b'\n' | b'\r') {
             return end;
         }
-        if b == 13 {
-            return end;
-        }
-        end += 1;
     }
-    end
+    file.len()
 }
 
 // One line, without its end, behind those read before it.
@@ -47,14 +41,10 @@ fn read_line(
     if LINE_LIMIT < bytes.len() {
         return read_next(14, next.count, c);
     }
-    let said = line(bytes, &mut *chars, &mut *out);
-    match said {
-        Said::Nothing => read_next(0, next.count, c),
-        Said::Triple(sk, se, pe, ok, oe) => {
-            let t = LineTerms { sk, se, pe, ok, oe };
-            read_triple(table, arena, hash, load, next, &*out, t)
-        }
-        Said::Bad => read_next(13, next.count, c),
+    match line(bytes, &mut *chars, &mut *out) {
+        Some(Said::Nothing) => read_next(0, next.count, c),
+        Some(Said::Triple(t)) => read_triple(table, arena, hash, load, next, &*out, t),
+        None => read_next(13, next.count, c),
     }
 }
 

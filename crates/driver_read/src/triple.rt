@@ -1,39 +1,37 @@
 // A line's triple: its terms are put, and its ids go behind the triples that the load holds.
-ghost use Rattle.std.specs.Prelude.{◌≡◌};
+ghost use Rattle.std.specs.Prelude.{◌≡◌, None};
 ghost use Rattle.common.specs.Values.{triple_of};
 ghost use Rattle.dictionary_layout.specs.Values.{contents};
 ghost use Rattle.dictionary_puts.specs.Indexed.{Indexed};
-ghost use Rattle.driver_read.specs.Lines.{Ordered, terms_at, line_ids, PutsTerms, Rows, Adds, Between, said_comes, ComesTo};
+ghost use Rattle.driver_read.specs.Lines.{PutsTerms, Rows, Adds, Between, said_comes, ComesTo};
 ghost use Rattle.ntriples.specs.Grammar.{says};
+ghost use Rattle.ntriples_lines.specs.Promises.{Ordered, terms_at};
 ghost use Rattle.ntriples.specs.Reading.{all_short};
 
-use crate::values::{LineIds, LineTerms, ReadNext, line_ids, read_next};
-use common::{Id, LOAD_LIMIT, LOAD_WIDTH, TERM_LIMIT, Triple};
+use crate::values::{LineIds, ReadNext, read_next};
+use common::{LOAD_LIMIT, LOAD_WIDTH, TERM_LIMIT, Triple};
 use dictionary_index::Counters;
 use dictionary_puts::put_indexed;
+use ntriples_lines::LineTerms;
 
 // Whether no term of a line is too long.
 fn all_short(t: LineTerms, out: &[u8]) -> bool
     requires { Ordered t out.now }
     ensures { result ≡ all_short (terms_at t out.now) }
 {
-    if TERM_LIMIT < t.se {
-        return false;
-    }
-    if TERM_LIMIT < t.pe - t.se {
-        return false;
-    }
-    if TERM_LIMIT < t.oe - t.pe {
-        return false;
-    }
-    true
+    t.subject_end <= TERM_LIMIT
+        && t.predicate_end - t.subject_end <= TERM_LIMIT
+        && t.object_end - t.predicate_end <= TERM_LIMIT
 }
 
-// Terms one of which was refused.
+// Terms one of which has no room.
 fn no_room(counters: Counters) -> LineIds
-    ensures { result ≡ line_ids 7 0 0 0 counters }
+    ensures { result ≡ record { triple = None; counters = counters } }
 {
-    line_ids(7, Id(0), Id(0), Id(0), counters)
+    LineIds {
+        triple: None,
+        counters,
+    }
 }
 
 // Puts the terms of a line, subject first, up to the first that has no room.
@@ -49,32 +47,50 @@ fn put_terms(
     ensures { PutsTerms (contents table.old arena.old counters) (terms_at t out.now)
         table.new arena.new hash.new result }
 {
-    let se = t.se;
-    let pe = t.pe;
-    let oe = t.oe;
-    let s = put_indexed(
+    let s_end = t.subject_end;
+    let p_end = t.predicate_end;
+    let o_end = t.object_end;
+    let Ok(s) = put_indexed(
         &mut *table,
         &mut *arena,
         counters,
         &mut *hash,
-        t.sk,
-        &out[..se],
-    );
+        t.subject_kind,
+        &out[..s_end],
+    ) else {
+        return no_room(counters);
+    };
     let c = s.counters;
-    if s.number != 0 {
+    let Ok(p) = put_indexed(
+        &mut *table,
+        &mut *arena,
+        c,
+        &mut *hash,
+        1,
+        &out[s_end..p_end],
+    ) else {
         return no_room(c);
-    }
-    let p = put_indexed(&mut *table, &mut *arena, c, &mut *hash, 1, &out[se..pe]);
+    };
     let c = p.counters;
-    if p.number != 0 {
+    let Ok(o) = put_indexed(
+        &mut *table,
+        &mut *arena,
+        c,
+        &mut *hash,
+        t.object_kind,
+        &out[p_end..o_end],
+    ) else {
         return no_room(c);
+    };
+    let triple = Triple {
+        s: s.id,
+        p: p.id,
+        o: o.id,
+    };
+    LineIds {
+        triple: Some(triple),
+        counters: o.counters,
     }
-    let o = put_indexed(&mut *table, &mut *arena, c, &mut *hash, t.ok, &out[pe..oe]);
-    let c = o.counters;
-    if o.number != 0 {
-        return no_room(c);
-    }
-    line_ids(0, s.id, p.id, o.id, c)
 }
 
 // Writes a triple behind the first `count` of a load, where it has room for one more.
@@ -83,11 +99,8 @@ fn add_triple(load: &mut [u32], count: u32, t: Triple) -> bool
     ensures { Adds load.old count (triple_of t) result load.new }
 {
     let n = count as usize;
-    if LOAD_LIMIT <= n {
-        return false;
-    }
     let at = LOAD_WIDTH * n;
-    if load.len() < at + LOAD_WIDTH {
+    if LOAD_LIMIT <= n || load.len() < at + LOAD_WIDTH {
         return false;
     }
     load[at] = t.s.0;
@@ -118,10 +131,10 @@ pub fn read_triple(
     }
     let ids = put_terms(&mut *table, &mut *arena, &mut *hash, c, out, t);
     let c = ids.counters;
-    if ids.number != 0 {
+    let Some(triple) = ids.triple else {
         return read_next(7, next.count, c);
-    }
-    if add_triple(&mut *load, next.count, ids.triple) {
+    };
+    if add_triple(&mut *load, next.count, triple) {
         return read_next(0, next.count + 1, c);
     }
     read_next(3, next.count, c)

@@ -1,8 +1,7 @@
-// What reading a file answers, a line's terms, and what they come to.
+// What reading a file answers, and what a line's terms come to.
 ghost use Rattle.std.specs.Prelude.{◌≡◌};
-ghost use Rattle.driver_read.specs.Lines.{line_ids};
 
-use common::{Id, Triple};
+use common::Triple;
 use dictionary_index::Counters;
 
 // The refusal's number, the count of the triples, and the counters as they are afterwards.
@@ -13,22 +12,10 @@ pub struct ReadNext {
     pub counters: Counters,
 }
 
-// A line's terms: the kinds of subject and object, and the places after the bytes of subject, predicate and object, which stand one behind
-// the other.
-#[derive(Clone, Copy)]
-pub struct LineTerms {
-    pub sk: u32,
-    pub se: usize,
-    pub pe: usize,
-    pub ok: u32,
-    pub oe: usize,
-}
-
-// 0 and the ids of a line's terms, or another number; and the counters as they are afterwards.
+// The ids of a line's terms, none where one of them has no room; and the counters as they are afterwards.
 #[derive(Clone, Copy)]
 pub struct LineIds {
-    pub number: u32,
-    pub triple: Triple,
+    pub triple: Option<Triple>,
     pub counters: Counters,
 }
 
@@ -39,18 +26,6 @@ pub fn read_next(number: u32, count: u32, counters: Counters) -> ReadNext
     ReadNext {
         number,
         count,
-        counters,
-    }
-}
-
-// The answer for a line's terms with these ids.
-pub fn line_ids(number: u32, s: Id, p: Id, o: Id, counters: Counters) -> LineIds
-    ensures { result ≡ line_ids number s.0 p.0 o.0 counters }
-{
-    let triple = Triple { s, p, o };
-    LineIds {
-        number,
-        triple,
         counters,
     }
 }

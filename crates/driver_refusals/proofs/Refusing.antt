@@ -1,72 +1,37 @@
--- Refusals in order, and tests of a whole load. Assumes nothing.
-use mathlib.Core.Path.{◌≡◌, refl, sym, ap, subst, ◌∙◌}
+-- Tests of a whole load, and a table of refusals of which none is met. Assumes nothing.
+use mathlib.Core.Path.{◌≡◌, refl, sym, subst, ◌∙◌}
 use mathlib.Core.Logic.{◌⊎◌, inl, inr}
 use mathlib.Core.Bool.{Bool, true, false, ◌&&◌, not}
 use mathlib.Core.List.{List, [], ◌∷◌}
-use Prim.Native.Nat.{ℕ, zero, suc, ◌+◌, ◌≤◌, ◌<◌}
-use native.Mathlib.Numerals.{add-one}
+use Prim.Native.Nat.{ℕ, ◌<◌}
+use Rattle.std.specs.List.{AllPass, list_all}
+use Rattle.std.proofs.Common.{◌↔◌}
+use Rattle.std.proofs.lemmas.List.Sums.{AllPass-from_list_all, list_all-from_AllPass}
 use native.Mathlib.Omega.{arith}
-use lib.ListN.{length, drop, get_or}
-use lib.Seq.{drop-cons, drop-length}
 use lib.Dec.{T, ltb, ltb→lt}
 use Rattle.common.specs.Triples.{Triple, triple, In, if, all}
 use Rattle.common.specs.Rows.{triples}
 use Rattle.common.proofs.Lists.{in_nil, in_cons, and→}
 use Rattle.driver_refusals.specs.RunRefusals.{Refusal, first_refusal}
 
--- the first k conditions are not met
-abbrev pub Past : ℕ → List Refusal → Type 0
-Past zero r = Unit {0}
-Past (suc k) [] = Unit {0}
-Past (suc k) (s ∷ r) = (s.met ≡ false) × Past k r
+-- a test of all elements is std's
+all_elements : (f : ℕ → Bool) (l : List ℕ) → list_all f l ≡ all f l
+all_elements f [] = refl
+all_elements f (x ∷ l) = both (f x) (all_elements f l)
+  where
+    both : (b : Bool) → list_all f l ≡ all f l → (b && list_all f l) ≡ if b (λ _. all f l) (λ _. false)
+    both true e = e
+    both false e = refl
 
--- the condition after the first k, and the number of its refusal
-abbrev pub met_at : ℕ → List Refusal → Bool
-met_at k [] = false
-met_at zero (s ∷ r) = s.met
-met_at (suc k) (s ∷ r) = met_at k r
-
-abbrev pub number_at : ℕ → List Refusal → ℕ
-number_at k [] = 0
-number_at zero (s ∷ r) = s.number
-number_at (suc k) (s ∷ r) = number_at k r
-
-pub past_more : (k : ℕ) (r : List Refusal) → Past k r → met_at k r ≡ false → Past (suc k) r
-past_more zero [] p e = tt
-past_more zero (s ∷ r) p e = (e, tt)
-past_more (suc k) [] p e = tt
-past_more (suc k) (s ∷ r) p e = (p.0, past_more k r p.1 e)
-
--- THE FIRST CONDITION THAT IS MET: those before it are not, and it is
-pub first_met : (k : ℕ) (r : List Refusal) → Past k r → met_at k r ≡ true → number_at k r ≡ first_refusal r
-first_met k [] p e = refl
-first_met zero (s ∷ r) p e = ap (λ (c : Bool). if c (λ _. s.number) (λ _. first_refusal r)) (sym e)
-first_met (suc k) (s ∷ r) p e =
-    first_met k r p.1 e ∙ ap (λ (c : Bool). if c (λ _. s.number) (λ _. first_refusal r)) (sym p.0)
-
--- and where none is
-pub none_met : (r : List Refusal) → Past (length r) r → 0 ≡ first_refusal r
-none_met [] p = refl
-none_met (s ∷ r) p = none_met r p.1 ∙ ap (λ (c : Bool). if c (λ _. s.number) (λ _. first_refusal r)) (sym p.0)
-
--- a test of all elements, with j of them passed
-module _ (f : ℕ → Bool) (l : List ℕ) where
-  pub all_start : all f l ≡ all f (drop 0 l)
-  all_start = refl
-
-  at : (j : ℕ) → j < length l → all f (drop j l) ≡ if (f (get_or l j 0)) (λ _. all f (drop (j + 1) l)) (λ _. false)
-  at j h = ap (all f) (drop-cons l j 0 h) ∙ ap (λ (k : ℕ). if (f (get_or l j 0)) (λ _. all f (drop k l)) (λ _. false)) (sym (add-one j))
-
-  pub all_step : (j : ℕ) → j < length l → f (get_or l j 0) ≡ true → all f l ≡ all f (drop j l) → all f l ≡ all f (drop (j + 1) l)
-  all_step j h e q = q ∙ (at j h ∙ ap (λ (b : Bool). if b (λ _. all f (drop (j + 1) l)) (λ _. false)) e)
-
-  pub all_fails : (j : ℕ) → j < length l → f (get_or l j 0) ≡ false → all f l ≡ all f (drop j l) → false ≡ all f l
-  all_fails j h e q = sym (q ∙ (at j h ∙ ap (λ (b : Bool). if b (λ _. all f (drop (j + 1) l)) (λ _. false)) e))
-
-  pub all_end : (j : ℕ) → j ≤ length l → length l ≤ j → all f l ≡ all f (drop j l) → true ≡ all f l
-  all_end j h g q =
-      let e : j ≡ length l = omega arith in
-      sym (q ∙ ap (all f) (ap (λ (k : ℕ). drop k l) e ∙ drop-length l))
+-- and what is true exactly where each element passes it is the test
+pub all_pass : (f : ℕ → Bool) (l : List ℕ) (b : Bool) → (b ≡ true ↔ AllPass f l) → b ≡ all f l
+all_pass f l b h =
+    go b (list_all f l) (λ e. list_all-from_AllPass f l (h.0 e)) (λ e. h.1 (AllPass-from_list_all f l e)) ∙ all_elements f l
+  where
+    go : (a b : Bool) → (a ≡ true → b ≡ true) → (b ≡ true → a ≡ true) → a ≡ b
+    go true b f g = sym (f refl)
+    go false true f g = g refl
+    go false false f g = refl
 
 -- no refusal of a table of them
 abbrev pub Unmet : List Refusal → Type 0

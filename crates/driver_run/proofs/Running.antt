@@ -15,7 +15,7 @@ use Rattle.dictionary_layout.specs.Terms.{Term, property_term, membership_term, 
 use Rattle.dictionary_layout.specs.Layout.{Dict, layout, decode}
 use Rattle.dictionary_layout.specs.Dictionary.{place_of, id_of, AllPut, full, all_put, put_all, valid}
 use Rattle.dictionary_layout.specs.Values.{contents}
-use Rattle.dictionary_run_terms.specs.Calls.{ids_in, RunTermsResult, run_terms_result, run_terms_laid, run_terms_give, run_terms_left}
+use Rattle.dictionary_run_terms.specs.Calls.{ids_in, RunTermsResult, run_terms_result, run_terms_laid, run_terms_give}
 use Rattle.dictionary_layout.specs.declared.values.Counters.{Counters}
 use Rattle.dictionary_run_terms.specs.declared.values.RunTermIds.{RunTermIds}
 use Rattle.dictionary_run_terms.specs.declared.values.RunTerms.{RunTerms}
@@ -25,8 +25,7 @@ use Rattle.dictionary_layout.proofs.Holding.{Holds, put_all_holds, valid→, val
 use Rattle.dictionary_entries.proofs.Reading.{held, count}
 use Rattle.driver_refusals.specs.Lent.{Lent}
 use Rattle.driver_load.specs.Closed.{AnswerOfRun, closed_answer}
-use Rattle.driver_run.specs.Run.{unchanged, AbstractRunResult, run_all_put, run_passed, abstract_run, RunResult, run_laid}
-use Rattle.driver_run.specs.Run.{run_gives}
+use Rattle.driver_run.specs.Run.{unchanged, AbstractRunResult, run_all_put, run_passed, abstract_run, RunResult, run_laid, run_gives}
 use Rattle.driver_refusals.specs.RunRefusals.{first_refusal, run_refusals}
 use Rattle.driver_load.specs.Loads.{Below, Termed, Loaded}
 use Rattle.driver_refusals.proofs.Refusing.{Unmet, unmet_all, not_not, all_in}
@@ -147,7 +146,8 @@ module _ (d : Dict) (b : Lent) (v : T (valid d)) where
       }
 
       -- WHAT THE CLOSING IS TOLD of the dictionary
-      pub termed : (r : RunTerms) {table arena : List ℕ} → run_terms_left r table arena ≡ x → Termed table arena r
+      pub termed : (r : RunTerms) {table arena : List ℕ} → run_terms_result 0 r.ids (contents table arena r.counters) ≡ x
+          → Termed table arena r
       termed r {table} {arena} q =
           let e : r.ids ≡ ids_in H.terms = ap (λ (y : RunTermsResult). y.ids) (q ∙ H.left) in
           let c : x.contents ≡ contents table arena r.counters = sym (ap (λ (y : RunTermsResult). y.contents) q) in

@@ -5,23 +5,25 @@ mod values; // values.rt: what a run answers, with the counters
 
 ghost use Rattle.std.specs.Prelude.{◌≡◌};
 ghost use Rattle.dictionary_layout.specs.Values.{contents};
-ghost use Rattle.driver_load.specs.Values.{refused_answer};
 ghost use Rattle.driver_run.specs.Run.{run_gives};
 ghost use Rattle.driver_run.specs.Values.{run_leaves};
 
+use common::Refusal;
 use dictionary_index::{Counters, is_valid};
 use dictionary_run_terms::put_run_terms;
 pub use driver_load::RunAnswer;
-use driver_load::{refused_answer, run_load};
+use driver_load::run_load;
 use driver_refusals::run_refusal;
 pub use values::RunNext;
 
 // A refusal that changes nothing.
-fn refused_run(number: u32, counters: Counters) -> RunNext
-    ensures { result ≡ record { answer = refused_answer number; counters = counters } }
+fn refused_run(refusal: Refusal, counters: Counters) -> RunNext
+    ensures { result ≡ record { answer = Err refusal; counters = counters } }
 {
-    let answer = refused_answer(number);
-    RunNext { answer, counters }
+    RunNext {
+        answer: Err(refusal),
+        counters,
+    }
 }
 
 // Closes a load: the answer in the store, the findings, their counts. The counters as they are afterwards are returned.
@@ -40,28 +42,27 @@ pub fn run(
         (record { load = load.now; store = store.old; findings = findings.old; work = work.old }) }
 {
     if !is_valid(&*table, &*arena, counters) {
-        return refused_run(1, counters);
+        return refused_run(Refusal::BrokenDictionary, counters);
     }
-    let number = run_refusal(load, &*store, &*findings, &*work, counters.terms);
-    if number != 0 {
-        return refused_run(number, counters);
+    if let Err(refusal) = run_refusal(load, &*store, &*findings, &*work, counters.terms) {
+        return refused_run(refusal, counters);
     }
-    let terms = put_run_terms(&mut *table, &mut *arena, counters);
-    if terms.number != 0 {
-        return refused_run(terms.number, counters);
-    }
-    let answer = run_load(
-        load,
-        &*table,
-        &*arena,
-        terms,
-        &mut *store,
-        &mut *findings,
-        &mut *work,
-    );
-    let next = terms.counters;
-    RunNext {
-        answer,
-        counters: next,
+    match put_run_terms(&mut *table, &mut *arena, counters) {
+        Err(refusal) => refused_run(refusal, counters),
+        Ok(terms) => {
+            let answer = run_load(
+                load,
+                &*table,
+                &*arena,
+                terms,
+                &mut *store,
+                &mut *findings,
+                &mut *work,
+            );
+            RunNext {
+                answer,
+                counters: terms.counters,
+            }
+        }
     }
 }

@@ -1,9 +1,9 @@
 // What an opening call and a pass answer.
 use driver_load::RunAnswer;
 
-// What a run answers, and 1 if the run is done, else 0.
+// What a run answers, and whether the run is done.
 #[derive(Clone, Copy)]
 pub struct TurnAnswer {
     pub run: RunAnswer,
-    pub done: u32,
+    pub done: bool,
 }

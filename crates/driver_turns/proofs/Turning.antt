@@ -1,4 +1,9 @@
 -- From the steps of an opening call or a pass to what its definition gives. Assumes nothing.
+use Rattle.std.specs.Prelude.{Result, Ok, Err}
+use Rattle.common.specs.declared.refusal.Refusal.{Refusal}
+use Rattle.common.specs.Refusals.{answer_number}
+use Rattle.driver_step.specs.declared.values.TurnAnswer.{TurnAnswer}
+use Rattle.driver_step.specs.Values.{run_part}
 use mathlib.Core.Path.{◌≡◌, refl, sym, ap, subst, ◌∙◌}
 use mathlib.Core.Logic.{◌⊎◌, inl, inr, ◌≢◌}
 use mathlib.Core.Bool.{Bool, true, false}
@@ -20,8 +25,9 @@ use Rattle.dictionary_layout.proofs.Choice.{if_yes, if_no, decide_bool}
 use Rattle.dictionary_layout.proofs.Decoding.{decode_layout, layout_table, layout_arena}
 use Rattle.dictionary_layout.proofs.Holding.{Holds, holds_fits, put_all_holds, valid→, valid_layout}
 use Rattle.dictionary_entries.proofs.Reading.{held, count, lengths}
+use Rattle.dictionary_layout.specs.Values.{contents}
 use Rattle.dictionary_run_terms.specs.declared.values.RunTerms.{RunTerms}
-use Rattle.dictionary_run_terms.specs.Calls.{RunTermsResult, run_terms_laid, run_terms_give, run_terms_left}
+use Rattle.dictionary_run_terms.specs.Calls.{RunTermsResult, run_terms_laid, run_terms_give, run_terms_result}
 use Rattle.dictionary_puts.specs.Indexed.{retracted}
 use Rattle.driver_refusals.specs.Lent.{Lent}
 use Rattle.driver_refusals.specs.RunRefusals.{first_refusal, run_refusals}
@@ -33,6 +39,11 @@ use Rattle.driver_step.specs.Step.{AnswerOfTurn, kept, turn_shown, opened_answer
 use Rattle.driver_turns.specs.Admission.{not_admitted, admitted, admission}
 use Rattle.driver_turns.specs.Turns.{AbstractTurnResult, Past7, open_past, pass_past, turn_all_put, turn_passed, abstract_turn}
 use Rattle.driver_turns.specs.Turns.{TurnResult, turn_laid, turn_gives, open_gives, pass_gives}
+
+-- the number of a call's answer is that of its run
+pub part_number : (r : Result TurnAnswer Refusal) → answer_number r ≡ answer_number (run_part r)
+part_number (Ok r) = refl
+part_number (Err e) = refl
 
 -- a call's answer with the contents that it leaves
 abbrev pub result : AnswerOfTurn → Dict → TurnResult
@@ -164,7 +175,8 @@ module _ (d : Dict) (b : Lent) where
     decoded = ap decode left ∙ decode_layout tl al us
 
     -- WHAT THE STEP IS TOLD of the dictionary, and of load and buffers
-    pub turn_termed : (r : RunTerms) {table arena : List ℕ} → run_terms_left r table arena ≡ x → Termed table arena r
+    pub turn_termed : (r : RunTerms) {table arena : List ℕ} → run_terms_result 0 r.ids (contents table arena r.counters) ≡ x
+        → Termed table arena r
     turn_termed r {table} {arena} q = termed d b A.sound A.unmet x A.put A.held_after r q
 
     pub turn_loaded : Loaded b.load b.store b.work x.contents.terms

@@ -3,38 +3,23 @@
 
 mod values; // values.rt: what they answer, with the counters
 
-ghost use Rattle.std.specs.Prelude.{◌≡◌};
+ghost use Rattle.std.specs.Prelude.{◌≡◌, eqb};
+ghost use Rattle.common.specs.Refusals.{answer_number};
 ghost use Rattle.dictionary_layout.specs.Values.{contents};
-ghost use Rattle.dictionary_run_terms.specs.Calls.{run_term_ids, run_terms_left};
+ghost use Rattle.dictionary_run_terms.specs.Calls.{run_terms_left};
 ghost use Rattle.driver_refusals.specs.Lent.{lent};
-ghost use Rattle.driver_step.specs.Values.{refused_turn};
 ghost use Rattle.driver_turns.specs.Admission.{admission};
 ghost use Rattle.driver_turns.specs.Turns.{open_gives, pass_gives};
 ghost use Rattle.driver_turns.specs.Values.{turn_leaves};
 
-use common::Id;
+use common::Refusal;
 use dictionary_index::{Counters, is_valid};
 use dictionary_puts::retract;
-use dictionary_run_terms::{RunTermIds, RunTerms, put_run_terms};
+use dictionary_run_terms::{RunTerms, put_run_terms};
 use driver_refusals::run_refusal;
 pub use driver_step::TurnAnswer;
-use driver_step::{open_load, pass_load, refused_turn};
+use driver_step::{open_load, pass_load};
 pub use values::TurnNext;
-
-// Not admitted, with nothing changed.
-fn not_admitted(number: u32, counters: Counters) -> RunTerms
-    ensures { result ≡ record { number = number; ids = run_term_ids 0 0 0; counters = counters } }
-{
-    RunTerms {
-        number,
-        ids: RunTermIds {
-            property: Id(0),
-            membership: Id(0),
-            member: Id(0),
-        },
-        counters,
-    }
-}
 
 // A run's refusals 1 to 7, in order; where none is met, the run's three terms are put.
 fn admit(
@@ -45,27 +30,26 @@ fn admit(
     store: &[u32],
     findings: &[u32],
     work: &[u32],
-) -> RunTerms
-    ensures { run_terms_left result table.new arena.new
+) -> Result<RunTerms, Refusal>
+    ensures { run_terms_left counters result table.new arena.new
         ≡ admission (contents table.old arena.old counters)
         (lent load.now store.now findings.now work.now) }
 {
     if !is_valid(&*table, &*arena, counters) {
-        return not_admitted(1, counters);
+        return Err(Refusal::BrokenDictionary);
     }
-    let number = run_refusal(load, store, findings, work, counters.terms);
-    if number != 0 {
-        return not_admitted(number, counters);
-    }
+    run_refusal(load, store, findings, work, counters.terms)?;
     put_run_terms(table, arena, counters)
 }
 
 // A refusal that changes nothing.
-fn refused_next(number: u32, counters: Counters) -> TurnNext
-    ensures { result ≡ record { answer = refused_turn number; counters = counters } }
+fn refused_next(refusal: Refusal, counters: Counters) -> TurnNext
+    ensures { result ≡ record { answer = Err refusal; counters = counters } }
 {
-    let answer = refused_turn(number);
-    TurnNext { answer, counters }
+    TurnNext {
+        answer: Err(refusal),
+        counters,
+    }
 }
 
 // Opens a run: the starting triples in the store.
@@ -83,7 +67,7 @@ pub fn open(
         ≡ open_gives (contents table.old arena.old counters)
         (lent load.now store.old findings.old work.old) }
 {
-    let terms = admit(
+    let admitted = admit(
         &mut *table,
         &mut *arena,
         counters,
@@ -92,22 +76,34 @@ pub fn open(
         &*findings,
         &*work,
     );
-    if terms.number != 0 {
-        return refused_next(terms.number, counters);
+    match admitted {
+        Err(refusal) => refused_next(refusal, counters),
+        Ok(terms) => {
+            let next = terms.counters;
+            let answer = open_load(
+                load,
+                &*table,
+                &*arena,
+                terms,
+                &mut *store,
+                &mut *findings,
+                &mut *work,
+            );
+            TurnNext {
+                answer,
+                counters: next,
+            }
+        }
     }
-    let answer = open_load(
-        load,
-        &*table,
-        &*arena,
-        terms,
-        &mut *store,
-        &mut *findings,
-        &mut *work,
-    );
-    let next = terms.counters;
-    TurnNext {
-        answer,
-        counters: next,
+}
+
+// Whether a pass was refused because its store cannot take it.
+fn is_untaken(answer: Result<TurnAnswer, Refusal>) -> bool
+    ensures { result ≡ eqb (answer_number answer) 4 }
+{
+    match answer {
+        Err(refusal) => refusal.number() == Refusal::IllSizedStore.number(),
+        Ok(_) => false,
     }
 }
 
@@ -126,7 +122,7 @@ pub fn pass(
         ≡ pass_gives (contents table.old arena.old counters)
         (lent load.now store.old findings.old work.old) }
 {
-    let terms = admit(
+    let admitted = admit(
         &mut *table,
         &mut *arena,
         counters,
@@ -135,28 +131,30 @@ pub fn pass(
         &*findings,
         &*work,
     );
-    if terms.number != 0 {
-        return refused_next(terms.number, counters);
-    }
-    let answer = pass_load(
-        load,
-        &*table,
-        &*arena,
-        terms,
-        &mut *store,
-        &mut *findings,
-        &mut *work,
-    );
-    let put = terms.counters;
-    if answer.run.number == 4 {
-        let left = retract(table, arena, put, counters.terms);
-        return TurnNext {
-            answer,
-            counters: left,
-        };
-    }
-    TurnNext {
-        answer,
-        counters: put,
+    match admitted {
+        Err(refusal) => refused_next(refusal, counters),
+        Ok(terms) => {
+            let put = terms.counters;
+            let answer = pass_load(
+                load,
+                &*table,
+                &*arena,
+                terms,
+                &mut *store,
+                &mut *findings,
+                &mut *work,
+            );
+            if is_untaken(answer) {
+                let left = retract(table, arena, put, counters.terms);
+                return TurnNext {
+                    answer,
+                    counters: left,
+                };
+            }
+            TurnNext {
+                answer,
+                counters: put,
+            }
+        }
     }
 }

@@ -15,7 +15,9 @@ use Rattle.dictionary_entries.specs.Entries.{start_of, length_of, kind_of}
 use Rattle.dictionary_entries.proofs.Reading.{count, entry_names, term_short}
 use Rattle.ntriples_utf8.specs.Promises.{Wrote}
 use Rattle.ntriples_canonical.specs.Writing.{term_text}
-use Rattle.ntriples_text.specs.Promises.{or_nothing, text_length, Measurable, TextFits}
+use Rattle.ntriples_text.specs.Promises.{or_nothing, text_size, text_length, Measurable, TextFits}
+use Rattle.std.specs.Option.{unwrap_or}
+use Rattle.std.specs.Prelude.{Option as Maybe}
 use Rattle.driver_write.specs.Lines.{Measured, Roomed}
 use Rattle.ntriples_canonical.proofs.Bytes.{text_short}
 
@@ -49,8 +51,9 @@ module _ (d : Dict) (v : T (valid d)) (i : ℕ) (h : i < d.terms) where
   entry_measurable r =
       record { short = omega (arith, ap (λ (t : Term). length t.bytes) entry_is_term, term_short d v i h); room = r }
 
-  pub entry_length : {r : ℕ} → r ≡ text_length (term (kind_of d.table i) part) → r ≡ text_length (term_of (decode d) i)
-  entry_length e = e ∙ ap text_length entry_is_term
+  pub entry_length : {r : Maybe ℕ} → r ≡ text_size (term_text (term (kind_of d.table i) part))
+      → r ≡ text_size (term_text (term_of (decode d) i))
+  entry_length e = e ∙ ap (λ t. text_size (term_text t)) entry_is_term
 
   -- and written
   pub entry_fits_page : {at : ℕ} {page : List ℕ} → TextFits (term_text (term_of (decode d) i)) at page
@@ -64,6 +67,14 @@ module _ (d : Dict) (v : T (valid d)) (i : ℕ) (h : i < d.terms) where
 
   pub length_short : text_length (term_of (decode d) i) ≤ text_limit
   length_short = short_text (term_of (decode d) i) (term_short d v i h)
+
+-- the number that is noted for a length
+pub noted_as : (t : Term) {r : Maybe ℕ} → r ≡ text_size (term_text t) → unwrap_or r 0 ≡ text_length t
+noted_as t e = ap (λ o. unwrap_or o 0) e ∙ go (term_text t)
+  where
+    go : (o : Option (List ℕ)) → unwrap_or (text_size o) 0 ≡ length (or_nothing o)
+    go none = refl
+    go (some l) = refl
 
 -- THE LENGTHS of all terms, when each is written
 pub lengths_written : {d : Dict} {lengths₀ lengths chars : List ℕ} {i : ℕ} → Roomed d lengths₀ chars

@@ -1,14 +1,14 @@
 -- Lines and how long they are: of a triple by the lengths of its terms' texts, and of the rows of a store one after the other. Assumes
 -- nothing.
 use mathlib.Core.Path.{◌≡◌, refl, sym, ◌∙◌, ap}
-use mathlib.Core.Logic.{◌⊎◌, inl, inr, ⊎_elim, ◌≢◌}
-use mathlib.Core.Bool.{◌&&◌, not}
+use mathlib.Core.Logic.{◌≢◌}
+use mathlib.Core.Bool.{not}
 use mathlib.Core.Option.{Option, some, none}
 use mathlib.Core.List.{List, [], ◌∷◌, ◌++◌}
 use Prim.Native.Nat.{ℕ, ◌+◌, ◌*◌, ◌/◌, ◌%◌, ◌≤◌, ◌<◌}
 use native.Mathlib.Omega.{arith}
 use native.Mathlib.Decide.{dec_lt}
-use lib.Dec.{T, eqb, ltb, eqb→eq, lt→ltb}
+use lib.Dec.{T, eqb, eqb→eq}
 use lib.ListN.{length, get_or, length-append}
 use Rattle.common.specs.Triples.{Triple}
 use Rattle.common.proofs.Lists.{and→, and←, eq→eqb, ne→neqb, neqb→ne}
@@ -25,6 +25,7 @@ use Rattle.ntriples_canonical.specs.Writing.{term_text, may_stand, spaced, line_
 use Rattle.ntriples_canonical.specs.Calls.{known}
 use Rattle.ntriples_canonical.proofs.Bytes.{text_some}
 use Rattle.ntriples_text.specs.Promises.{or_nothing, text_length}
+use Rattle.std.specs.Prelude.{Option as Maybe, Some, None, is_some, true, false}
 use Rattle.driver_write.specs.Lines.{terms_of, all_lines, line_length, Lengths}
 use Rattle.driver_write.proofs.Entries.{text_limit, length_short}
 use Rattle.driver_write.proofs.Texts.{rows_all, upto, upto_none, upto_more, upto_all}
@@ -60,16 +61,22 @@ line_made t m a b c =
     ∙ (λ i. on (a i) (λ s. on (b i) (λ p. on (c i) (λ o. some (spaced s p o)))))
 
 -- ITS LENGTH, with its end
-pub no_line : (t : Terms) → (LineParts t → ⊥) → 0 ≡ line_length t
-no_line t f = elim (dec_lt 0 (line_length t)) [ yes h ↦ absurd (f (line_parts t h)) | no h ↦ omega arith ]
+pub no_line : (t : Terms) → (LineParts t → ⊥) → None ≡ line_length (line_text t)
+no_line t f = go (line_text t) refl
+  where
+    go : (o : Option (List ℕ)) → line_text t ≡ o → None ≡ line_length o
+    go none e = refl
+    go (some l) e =
+        absurd (f (line_parts t (omega (arith, ap (λ (x : Option (List ℕ)). length (ended_line x)) e, length-append l (10 ∷ [])))))
 
-pub literal_subject : (t : Terms) {k : ℕ} → k ≡ t.s.kind → k ≡ 3 → 0 ≡ line_length t
+pub literal_subject : (t : Terms) {k : ℕ} → k ≡ t.s.kind → k ≡ 3 → None ≡ line_length (line_text t)
 literal_subject t e q = no_line t (λ w. (may→ t w.may).0 (sym e ∙ q))
 
-pub other_predicate : (t : Terms) {k : ℕ} → k ≡ t.p.kind → k ≢ 1 → 0 ≡ line_length t
+pub other_predicate : (t : Terms) {k : ℕ} → k ≡ t.p.kind → k ≢ 1 → None ≡ line_length (line_text t)
 other_predicate t e n = no_line t (λ w. n (e ∙ (may→ t w.may).1))
 
-parts_length : (t : Terms) → LineParts t → line_length t ≡ text_length t.s + text_length t.p + text_length t.o + 5
+parts_length : (t : Terms) → LineParts t
+    → length (ended_line (line_text t)) ≡ text_length t.s + text_length t.p + text_length t.o + 5
 parts_length t k =
     let s = k.s in
     let p = k.p in
@@ -87,24 +94,57 @@ parts_length t k =
 
 module _ (t : Terms) {a b c k m : ℕ} (ea : a ≡ text_length t.s) (eb : b ≡ text_length t.p) (ec : c ≡ text_length t.o)
     (ek : k ≡ t.s.kind) (em : m ≡ t.p.kind) where
-  pub has_line : a ≢ 0 → b ≢ 0 → c ≢ 0 → k ≢ 3 → m ≡ 1 → a + b + c + 5 ≡ line_length t
+  pub has_line : a ≢ 0 → b ≢ 0 → c ≢ 0 → k ≢ 3 → m ≡ 1 → Some (a + b + c + 5) ≡ line_length (line_text t)
   has_line na nb nc nk q =
       let (s, e) = has_text t.s (λ z. na (ea ∙ z)) in
       let (p, f) = has_text t.p (λ z. nb (eb ∙ z)) in
       let (o, g) = has_text t.o (λ z. nc (ec ∙ z)) in
       let made = line_made t (may← t (λ z. nk (ek ∙ z)) (sym em ∙ q)) e f g in
       let r = ap (λ (x : Option (List ℕ)). length (ended_line x)) made in
-      (λ i. ea i + eb i + ec i + 5)
-      ∙ sym (parts_length t (line_parts t (omega (arith, r, length-append (spaced s p o) (10 ∷ [])))))
+      let l = parts_length t (line_parts t (omega (arith, r, length-append (spaced s p o) (10 ∷ [])))) in
+      let sum : a + b + c + 5 ≡ length (ended_line (some (spaced s p o))) = (λ i. ea i + eb i + ec i + 5) ∙ (sym l ∙ r) in
+      ap (λ (n : ℕ). Some n) sum ∙ ap line_length (sym made)
+
+-- a line that is there
+pub line_known : (t : Terms) {n : ℕ} → Some n ≡ line_length (line_text t) → (l : List ℕ) × (line_text t ≡ some l) × (n ≡ length l + 1)
+line_known t {n} e = go (line_text t) refl e
+  where
+    go : (o : Option (List ℕ)) → line_text t ≡ o → Some n ≡ line_length o → (l : List ℕ) × (line_text t ≡ some l) × (n ≡ length l + 1)
+    go none q e = cc
+    go (some l) q e = let m : n ≡ length (l ++ (10 ∷ [])) = cc in (l, q, omega (arith, m, length-append l (10 ∷ [])))
+
+-- and one that is not
+pub line_missing : (t : Terms) → None ≡ line_length (line_text t) → line_text t ≡ none
+line_missing t e = go (line_text t) e
+  where
+    go : (o : Option (List ℕ)) → None ≡ line_length o → o ≡ none
+    go none e = refl
+    go (some l) e = cc
+
+-- the test whether it is there
+pub some_bytes : (t : Terms) {r : Maybe ℕ} → r ≡ line_length (line_text t) → true ≡ is_some r → length (ended_line (line_text t)) ≢ 0
+some_bytes t {r} e q = go (line_text t) e
+  where
+    go : (o : Option (List ℕ)) → r ≡ line_length o → length (ended_line o) ≢ 0
+    go none e = cc
+    go (some l) e = λ z. omega (arith, z, length-append l (10 ∷ []))
+
+pub no_bytes : (t : Terms) {r : Maybe ℕ} → r ≡ line_length (line_text t) → false ≡ is_some r → length (ended_line (line_text t)) ≡ 0
+no_bytes t {r} e q = go (line_text t) e
+  where
+    go : (o : Option (List ℕ)) → r ≡ line_length o → length (ended_line o) ≡ 0
+    go none e = refl
+    go (some l) e = cc
 
 -- the most bytes of a line with its end
 abbrev pub line_limit : ℕ
 line_limit = 3 * text_limit + 5
 
-pub line_short : (d : Dict) → T (valid d) → (x : Triple) → T (known d.terms x) → line_length (terms_of d x) ≤ line_limit
-line_short d v x h = go (dec_lt 0 (line_length (terms_of d x)))
+pub line_short : (d : Dict) → T (valid d) → (x : Triple) → T (known d.terms x)
+    → length (ended_line (line_text (terms_of d x))) ≤ line_limit
+line_short d v x h = go (dec_lt 0 (length (ended_line (line_text (terms_of d x)))))
   where
-    go : Dec (0 < line_length (terms_of d x)) → line_length (terms_of d x) ≤ line_limit
+    go : Dec (0 < length (ended_line (line_text (terms_of d x)))) → length (ended_line (line_text (terms_of d x))) ≤ line_limit
     go (no n) = omega arith
     go (yes l) =
         let t = terms_of d x in
@@ -117,28 +157,13 @@ line_short d v x h = go (dec_lt 0 (line_length (terms_of d x)))
           length_short d v x.o c,
         )
 
--- KNOWN IDS
-pub known← : (n : ℕ) (x : Triple) → x.s < n → x.p < n → x.o < n → T (known n x)
-known← n x a b c =
-    and← (ltb x.s n) (ltb x.p n && ltb x.o n) (lt→ltb x.s n a)
-    (and← (ltb x.p n) (ltb x.o n) (lt→ltb x.p n b) (lt→ltb x.o n c))
-
 -- the length that is noted for an id
 module _ {d : Dict} {lengths : List ℕ} (q : Lengths d lengths) (i : ℕ) (h : i < d.terms) where
   pub noted : get_or lengths i 0 ≡ text_length (term_of (decode d) i)
   noted = q.measured.each i h
 
-  pub noted_short : get_or lengths i 0 ≤ text_limit
-  noted_short = omega (arith, noted, length_short d q.unbroken i h)
-
   pub noted_within : i < length lengths
   noted_within = omega (arith, q.measured.room, count d q.unbroken)
-
-pub noted_sum : {d : Dict} {lengths : List ℕ} → Lengths d lengths → (x : Triple) → T (known d.terms x)
-    → get_or lengths x.s 0 + get_or lengths x.p 0 + get_or lengths x.o 0 ≤ 3 * text_limit
-noted_sum {d} q x h =
-    let (a, b, c) = known→ {n = d.terms} {x = x} h in
-    omega (arith, noted_short q x.s a, noted_short q x.p b, noted_short q x.o c)
 
 -- THE TRIPLES LEFT OUT, then those of others
 left_append : (ts : List Term) (xs ys : List Triple)
@@ -171,15 +196,15 @@ measures_none d store n = record {
   few = omega arith;
 }
 
--- one row more, whose line has k bytes
+-- one row more,
 module _ {d : Dict} {store : List ℕ} {n used left j : ℕ} (m : Measures d store n used left j) (h : j < n)
-    {x : Triple} (e : x ≡ row_at store j) {k : ℕ} (f : k ≡ line_length (terms_of d x)) (b : k ≤ line_limit) where
-  more_text : used + k ≡ length (upto d store (j + 1))
+    {x : Triple} (e : x ≡ row_at store j) where
+  more_text : length (upto d store (j + 1)) ≡ used + length (ended_line (line_text (terms_of d x)))
   more_text =
       omega (
         arith,
         m.long,
-        f ∙ ap (λ (y : Triple). line_length (terms_of d y)) e,
+        ap (λ (y : Triple). length (ended_line (line_text (terms_of d y)))) e,
         ap (λ (l : List ℕ). length l) (upto_more d store j),
         length-append (upto d store j) (ended_line (line_text (terms_of d (row_at store j)))),
       )
@@ -191,25 +216,36 @@ module _ {d : Dict} {store : List ℕ} {n used left j : ℕ} (m : Measures d sto
       ∙ (left_append (decode d) (rows j store) (row_at store j ∷ [])
       ∙ λ i. sym m.missing i + one_more (line_text (terms_of d (sym e i))) 0)
 
-  -- it is left out where it has none
-  pub measures_more : {r : ℕ} → ((k ≡ 0) × (r ≡ left + 1)) ⊎ ((k ≢ 0) × (r ≡ left)) → Measures d store n (used + k) r (j + 1)
-  measures_more {r} w =
+  -- whose line has k bytes
+  module _ {k : ℕ} (f : Some k ≡ line_length (line_text (terms_of d x))) where
+    -- no more than a line may have
+    pub its_length : k ≡ length (ended_line (line_text (terms_of d x)))
+    its_length =
+        let (l, q, r) = line_known (terms_of d x) f in
+        omega (arith, r, ap (λ (o : Option (List ℕ)). length (ended_line o)) q, length-append l (10 ∷ []))
+
+    pub measures_more : k ≤ line_limit → Measures d store n (used + k) left (j + 1)
+    measures_more b =
+        let (l, q, r) = line_known (terms_of d x) f in
+        record {
+          within = omega arith;
+          long = omega (arith, its_length, more_text);
+          missing = omega (arith, more_left, ap (λ o. one_more o 0) q);
+          short = omega (arith, m.short, b);
+          few = omega (arith, m.few);
+        }
+
+  -- that is left out
+  pub measures_left : None ≡ line_length (line_text (terms_of d x)) → Measures d store n used (left + 1) (j + 1)
+  measures_left f =
+      let q = line_missing (terms_of d x) f in
       record {
         within = omega arith;
-        long = more_text;
-        missing = go (line_text (terms_of d x)) refl w ∙ sym more_left;
-        short = omega (arith, m.short, b);
-        few = ⊎_elim (λ (y : (k ≡ 0) × (r ≡ left + 1)). omega (arith, m.few, y.1))
-            (λ (y : (k ≢ 0) × (r ≡ left)). omega (arith, m.few, y.1)) w;
+        long = omega (arith, ap (λ (o : Option (List ℕ)). length (ended_line o)) q, more_text);
+        missing = omega (arith, more_left, ap (λ o. one_more o 0) q);
+        short = omega (arith, m.short);
+        few = omega (arith, m.few);
       }
-    where
-      go : (o : Option (List ℕ)) → line_text (terms_of d x) ≡ o → ((k ≡ 0) × (r ≡ left + 1)) ⊎ ((k ≢ 0) × (r ≡ left))
-          → r ≡ left + one_more o 0
-      go none q (inl (z, y)) = omega (arith, y)
-      go none q (inr (z, y)) = absurd (z (f ∙ ap (λ (o : Option (List ℕ)). length (ended_line o)) q))
-      go (some l) q (inl (z, y)) =
-          absurd (omega (arith, z, f, ap (λ (o : Option (List ℕ)). length (ended_line o)) q, length-append l (10 ∷ [])))
-      go (some l) q (inr (z, y)) = omega (arith, y)
 
 -- all rows
 pub measures_all : {d : Dict} {store : List ℕ} {used left j : ℕ} → Measures d store (length store / width) used left j

@@ -1,4 +1,7 @@
 -- What a write answers and leaves: refusal 1, 4 or 6, refusal 15 with bytes all zero, or the text, then zeros. Assumes nothing.
+use Rattle.std.specs.Prelude.{Result, Ok, Err}
+use Rattle.common.specs.declared.refusal.Refusal.{Refusal}
+use Rattle.common.specs.declared.refusal.Refusal.TheVariants.{BrokenDictionary, IllSizedStore, UnknownTerm, PageFull}
 use mathlib.Core.Path.{◌≡◌, sym, ap, ap₂, subst, ◌∙◌}
 use mathlib.Core.List.{List, ◌++◌, append-nil}
 use Prim.Native.Nat.{ℕ, ◌-◌, ◌*◌, ◌/◌, ◌%◌, ◌≤◌, ◌<◌}
@@ -22,22 +25,18 @@ use Rattle.driver_write.specs.declared.values.WriteNext.{WriteNext}
 use Rattle.driver_write.specs.Values.{write_left}
 use Rattle.driver_write.specs.Lines.{row_triples, all_lines, KnownRows}
 
--- an answer by its numbers
-abbrev answer : ℕ → ℕ → ℕ → WriteNext
-answer n k m = record { number = n; used = k; left = m }
-
 -- room for a number of each term
 pub entries_few : (d : Dict) → T (valid d) → length (decode d) ≤ entry_limit
 entries_few d v = omega (arith, count d v, (lengths d v).few)
 
 -- THE TEXT OF ALL LINES, measured, on a page
-module _ (page : List ℕ) (w : List Terms) {all : WriteNext} (a : all ≡ answer 0 (length (text_of w)) (left_out w)) where
+module _ (page : List ℕ) (w : List Terms) {all : WriteNext} (a : all ≡ record { used = length (text_of w); left = left_out w }) where
   long : all.used ≡ length (text_of w)
   long = ap (λ (x : WriteNext). x.used) a
 
   -- without room
-  pub page_small : {r : WriteNext} {new : List ℕ} → length page < all.used → r ≡ answer 15 0 0 → new ≡ replicate (length page) 0
-      → write_left r new ≡ written_on page w
+  pub page_small : {r : Result WriteNext Refusal} {new : List ℕ} → length page < all.used → r ≡ Err PageFull
+      → new ≡ replicate (length page) 0 → write_left r new ≡ written_on page w
   unfolding written_on
   page_small h e z =
       ap₂ write_left e z ∙ sym (if_no (leb (length (text_of w)) (length page)) _ _
@@ -64,10 +63,10 @@ module _ (page : List ℕ) (w : List Terms) {all : WriteNext} (a : all ≡ answe
           ∙ (append-nil ys ∙ (z ∙ ap (λ (n : ℕ). replicate n 0) k)))
 
       pub page_written : {ys : List ℕ} → ys ≡ replicate (length (take (length b - end) (drop end b))) 0
-          → write_left all (take end b ++ (ys ++ drop (length b - end) (drop end b))) ≡ written_on page w
+          → write_left (Ok all) (take end b ++ (ys ++ drop (length b - end) (drop end b))) ≡ written_on page w
       unfolding written_on
       page_written z =
-          ap₂ write_left a (page_filled z)
+          ap₂ write_left (ap Ok a) (page_filled z)
           ∙ sym (if_yes (leb (length (text_of w)) (length page)) _ _ (le→leb (length (text_of w)) (length page) text_fits))
 
 -- THE CALL, with lengths that hold
@@ -98,7 +97,8 @@ module _ (store : List ℕ) (n : ℕ) (h : T (lengths_hold (length store) n)) wh
 -- what is refused, and what is written
 module _ (d : Dict) (store : List ℕ) (n : ℕ) (page : List ℕ) where
   -- a broken dictionary
-  pub write_1 : {r : WriteNext} → r ≡ answer 1 0 0 → (T (valid d) → ⊥) → write_left r page ≡ write_gives d store n page
+  pub write_1 : {r : Result WriteNext Refusal} → r ≡ Err BrokenDictionary → (T (valid d) → ⊥)
+      → write_left r page ≡ write_gives d store n page
   unfolding write_gives
   write_1 e b = ap (λ x. write_left x page) e ∙ sym (if_no (valid d) _ _ b)
 
@@ -109,7 +109,7 @@ module _ (d : Dict) (store : List ℕ) (n : ℕ) (page : List ℕ) where
     on_terms = sym (if_yes (valid d) _ _ v)
 
     -- lengths that do not hold
-    pub write_4 : {r : WriteNext} → r ≡ answer 4 0 0 → (T (lengths_hold (length store) n) → ⊥)
+    pub write_4 : {r : Result WriteNext Refusal} → r ≡ Err IllSizedStore → (T (lengths_hold (length store) n) → ⊥)
         → write_left r page ≡ write_gives d store n page
     unfolding abstract_write
     write_4 e b = ap (λ x. write_left x page) e ∙ (sym (if_no (lengths_hold (length store) n) _ _ b) ∙ on_terms)
@@ -119,7 +119,7 @@ module _ (d : Dict) (store : List ℕ) (n : ℕ) (page : List ℕ) where
       lent = take (store_width * n) store
 
       -- an id that no term has
-      pub write_6 : {r : WriteNext} → r ≡ answer 6 0 0 → (T (all (known d.terms) (row_triples lent)) → ⊥)
+      pub write_6 : {r : Result WriteNext Refusal} → r ≡ Err UnknownTerm → (T (all (known d.terms) (row_triples lent)) → ⊥)
           → write_left r page ≡ write_gives d store n page
       unfolding abstract_write
       write_6 e b =

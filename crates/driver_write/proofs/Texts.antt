@@ -1,9 +1,9 @@
 -- The text of the rows of a store, one row after the other. Assumes nothing.
 use mathlib.Core.Path.{◌≡◌, refl, sym, ap, subst, ◌∙◌}
-use mathlib.Core.Logic.{◌≢◌, ⊎_elim}
+use mathlib.Core.Logic.{◌≢◌}
 use mathlib.Core.Bool.{Bool, false}
 use mathlib.Core.List.{List, [], ◌∷◌, ◌++◌, append_assoc, append-nil}
-use Prim.Native.Nat.{ℕ, zero, suc, ◌+◌, ◌-◌, ◌*◌, ◌/◌, ◌%◌, ◌≤◌, ◌<◌}
+use Prim.Native.Nat.{ℕ, zero, suc, ◌+◌, ◌-◌, ◌/◌, ◌%◌, ◌≤◌, ◌<◌}
 use native.Mathlib.Nat.{add-zero}
 use native.Mathlib.Omega.{arith}
 use lib.Dec.{T}
@@ -13,7 +13,6 @@ use Rattle.dictionary_layout.specs.Terms.{Term}
 use Rattle.dictionary_layout.specs.Layout.{Dict, decode}
 use Rattle.dictionary_layout.specs.Dictionary.{term_of}
 use Rattle.store_rows.specs.Rows.{width, row_at, rows}
-use Rattle.store_rows.proofs.Cases.{below_or}
 use Rattle.store_rows.proofs.Listed.{listed_none, listed_more, in_listed→, in_listed←}
 use Rattle.store_rows.proofs.Rows.{erase_whole, rows_whole}
 use Rattle.ntriples.specs.Grammar.{terms}
@@ -60,12 +59,6 @@ module _ (n : ℕ) (store : List ℕ) (h : length store % width ≡ 0) where
       subst (λ xs. T (all (known n) xs)) (rows_all store h)
       (all← (known n) (rows (length store / width) store) (λ x i. let (j, l, e) = in_listed→ (length store / width) (row_at store) i in
       subst (λ y. T (known n y)) (sym e) (f j l)))
-
--- of the first j rows and the next
-pub ids_more : (n : ℕ) (store : List ℕ) (j : ℕ) → ((k : ℕ) → k < j → T (known n (row_at store k))) → {x : Triple} → x ≡ row_at store j
-    → T (known n x) → (k : ℕ) → k < j + 1 → T (known n (row_at store k))
-ids_more n store j f e t k b =
-    ⊎_elim (f k) (λ q. subst (λ y. T (known n y)) (e ∙ ap (row_at store) (sym q)) t) (below_or k j b)
 
 -- THE TEXT of triples, then that of others
 text_append : (ts : List Term) (xs ys : List Triple)
@@ -124,11 +117,8 @@ lining_as {d} {store} {old} {page} {new} {at} {n} {j} p q l =
     subst (λ m. Lining d store old m at j) (sym p) (subst (λ k. Lining d store old new k j) (sym q) l)
 
 module _ {d : Dict} {ls store old : List ℕ} (f : AllFit d ls store old) {page : List ℕ} {at j : ℕ} (l : Lining d store old page at j) where
-  -- the next row,
+  -- the next row
   module _ (h : j < length store / width) where
-    pub row_there : width * j + width ≤ length store
-    row_there = omega arith
-
     -- and its triple
     module _ {x : Triple} (e : x ≡ row_at store j) where
       pub row_known : T (known d.terms x)

@@ -1,5 +1,6 @@
 -- What the functions that a write is made of promise. Assumes nothing.
-use Rattle.std.specs.Prelude.{◌≡◌, List, ℕ, ◌+◌, ◌*◌, ◌%◌, ◌≤◌, ◌<◌, T, length, get_or}
+use Rattle.std.specs.Prelude.{◌≡◌, List, ℕ, ◌+◌, ◌*◌, ◌%◌, ◌≤◌, ◌<◌, T, length, get_or, Option as Maybe, Some, None}
+use Rattle.std.proofs.Math.Option.{Option, some, none}
 use Rattle.common.specs.Sizes.{store_width, store_limit, term_limit}
 use Rattle.common.specs.Triples.{Triple, all, erase}
 use Rattle.common.specs.Rows.{rows_of}
@@ -32,9 +33,10 @@ row_triples store = erase (rows_of store)
 abbrev pub all_lines : Dict → List ℕ → List Terms
 all_lines d store = as_terms (decode d) (row_triples store)
 
--- the length of a line with its end, 0 for a triple that is left out
-abbrev pub line_length : Terms → ℕ
-line_length t = length (ended_line (line_text t))
+-- the length of a line with its end, none for a triple that is left out
+abbrev pub line_length : Option (List ℕ) → Maybe ℕ
+line_length none = None
+line_length (some l) = Some (length (ended_line (some l)))
 
 -- a dictionary that is not broken, with the lengths of all its terms' texts
 pub record Lengths (d : Dict) (lengths : List ℕ) : Type 0 where

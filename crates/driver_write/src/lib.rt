@@ -14,33 +14,18 @@ ghost use Rattle.driver_write.specs.Lines.{all_lines, KnownRows};
 
 use crate::rows::{all_known, measure, put_lines};
 use crate::terms::term_lengths;
-use common::{ENTRY_LIMIT, STORE_LIMIT, STORE_WIDTH, TERM_LIMIT};
+use common::{ENTRY_LIMIT, Refusal, STORE_LIMIT, STORE_WIDTH, TERM_LIMIT};
 use dictionary_index::{Counters, is_valid};
 use dictionary_layout::bytes::clear_bytes;
 pub use values::WriteNext;
-
-// A refused write.
-fn refused(number: u32) -> WriteNext
-    ensures { result ≡ record { number = number; used = 0; left = 0 } }
-{
-    WriteNext {
-        number,
-        used: 0,
-        left: 0,
-    }
-}
 
 // Whether a store of a length has whole rows, no more than a store may have, and as many as are counted.
 fn holds(len: usize, count: u32) -> bool
     ensures { result ≡ lengths_hold len count }
 {
-    if len % STORE_WIDTH != 0 {
-        return false;
-    }
-    if STORE_WIDTH * STORE_LIMIT < len {
-        return false;
-    }
-    count as usize <= len / STORE_WIDTH
+    len % STORE_WIDTH == 0
+        && len <= STORE_WIDTH * STORE_LIMIT
+        && count as usize <= len / STORE_WIDTH
 }
 
 // The text of all rows, where the dictionary is not broken and the ids are known: its length is known before a byte is written.
@@ -50,7 +35,7 @@ fn write_rows(
     counters: Counters,
     store: &[u32],
     page: &mut [u8],
-) -> WriteNext
+) -> Result<WriteNext, Refusal>
     requires { T (valid (contents table.now arena.now counters))
         × KnownRows (contents table.now arena.now counters) store.now }
     ensures { write_left result page.new
@@ -62,11 +47,11 @@ fn write_rows(
     let all = measure(table, arena, counters, &lengths, store);
     if page.len() < all.used {
         clear_bytes(page);
-        return refused(15);
+        return Err(Refusal::PageFull);
     }
     let end = put_lines(table, arena, counters, &lengths, store, &mut *page);
     clear_bytes(&mut page[end..]);
-    all
+    Ok(all)
 }
 
 // Writes the triples of the first `count` rows, or refuses.
@@ -77,19 +62,19 @@ pub fn write(
     store: &[u32],
     count: u32,
     page: &mut [u8],
-) -> WriteNext
+) -> Result<WriteNext, Refusal>
     ensures { write_left result page.new
         ≡ write_gives (contents table.now arena.now counters) store.now count page.old }
 {
     if !is_valid(table, arena, counters) {
-        return refused(1);
+        return Err(Refusal::BrokenDictionary);
     }
     if !holds(store.len(), count) {
-        return refused(4);
+        return Err(Refusal::IllSizedStore);
     }
     let n = STORE_WIDTH * (count as usize);
     if !all_known(&store[..n], counters.terms) {
-        return refused(6);
+        return Err(Refusal::UnknownTerm);
     }
     write_rows(table, arena, counters, &store[..n], page)
 }

@@ -19,13 +19,7 @@ use store_rows::row;
 fn known(t: Triple, terms: u32) -> bool
     ensures { result ≡ known terms (triple_of t) }
 {
-    if terms <= t.s.0 {
-        return false;
-    }
-    if terms <= t.p.0 {
-        return false;
-    }
-    t.o.0 < terms
+    t.s.0 < terms && t.p.0 < terms && t.o.0 < terms
 }
 
 // Whether the ids of all rows are.
@@ -33,41 +27,35 @@ pub fn all_known(store: &[u32], terms: u32) -> bool
     requires { length store.now % store_width ≡ 0 }
     ensures { result ≡ all (known terms) (row_triples store.now) }
 {
-    let n = store.len() / STORE_WIDTH;
-    let mut j = 0;
-    while j < n {
+    for j in 0..store.len() / STORE_WIDTH {
         if !known(row(store, j), terms) {
             return false;
         }
-        j += 1;
     }
     true
 }
 
-// How long the line of a triple is with its end, 0 where the triple is left out.
-fn line_length(table: &[u32], arena: &[u8], counters: Counters, lengths: &[u32], t: Triple) -> usize
+// How long the line of a triple is with its end, none where the triple is left out.
+fn line_length(
+    table: &[u32],
+    arena: &[u8],
+    counters: Counters,
+    lengths: &[u32],
+    t: Triple,
+) -> Option<usize>
     requires { Lengths (contents table.now arena.now counters) lengths.now × T (known counters.terms (triple_of t)) }
-    ensures { result ≡ line_length (terms_of (contents table.now arena.now counters) (triple_of t)) }
+    ensures { result ≡ line_length (line_text (terms_of (contents table.now arena.now counters) (triple_of t))) }
 {
     let s = lengths[t.s.0 as usize] as usize;
     let p = lengths[t.p.0 as usize] as usize;
     let o = lengths[t.o.0 as usize] as usize;
-    if s == 0 {
-        return 0;
+    if s == 0 || p == 0 || o == 0 {
+        return None;
     }
-    if p == 0 {
-        return 0;
+    if kind_of(table, arena, counters, t.s) == 3 || kind_of(table, arena, counters, t.p) != 1 {
+        return None;
     }
-    if o == 0 {
-        return 0;
-    }
-    if kind_of(table, arena, counters, t.s) == 3 {
-        return 0;
-    }
-    if kind_of(table, arena, counters, t.p) != 1 {
-        return 0;
-    }
-    s + p + o + 5
+    Some(s + p + o + 5)
 }
 
 // The length of the text of all rows, and how many are left out.
@@ -81,28 +69,19 @@ pub fn measure(
     requires { Lengths (contents table.now arena.now counters) lengths.now
         × KnownRows (contents table.now arena.now counters) store.now }
     ensures { result ≡ record {
-      number = 0;
       used = length (text_of (all_lines (contents table.now arena.now counters) store.now));
       left = left_out (all_lines (contents table.now arena.now counters) store.now);
     } }
 {
-    let n = store.len() / STORE_WIDTH;
     let mut used = 0;
     let mut left = 0;
-    let mut j = 0;
-    while j < n {
-        let k = line_length(table, arena, counters, lengths, row(store, j));
-        if k == 0 {
-            left += 1;
+    for j in 0..store.len() / STORE_WIDTH {
+        match line_length(table, arena, counters, lengths, row(store, j)) {
+            Some(n) => used += n,
+            None => left += 1,
         }
-        used += k;
-        j += 1;
     }
-    WriteNext {
-        number: 0,
-        used,
-        left,
-    }
+    WriteNext { used, left }
 }
 
 // Writes the line of a triple that is not left out, with its end.
@@ -120,13 +99,13 @@ fn put_line(
         page.new result }
 {
     let n = put_term(table, arena, counters, t.s, &mut *page, at);
-    page[n] = 32;
+    page[n] = b' ';
     let m = put_term(table, arena, counters, t.p, &mut *page, n + 1);
-    page[m] = 32;
+    page[m] = b' ';
     let e = put_term(table, arena, counters, t.o, &mut *page, m + 1);
-    page[e] = 32;
-    page[e + 1] = 46;
-    page[e + 2] = 10;
+    page[e] = b' ';
+    page[e + 1] = b'.';
+    page[e + 2] = b'\n';
     e + 3
 }
 
@@ -144,15 +123,12 @@ pub fn put_lines(
         (text_of (all_lines (contents table.now arena.now counters) store.now))
         page.new result }
 {
-    let n = store.len() / STORE_WIDTH;
     let mut at = 0;
-    let mut j = 0;
-    while j < n {
+    for j in 0..store.len() / STORE_WIDTH {
         let t = row(store, j);
-        if line_length(table, arena, counters, lengths, t) != 0 {
+        if line_length(table, arena, counters, lengths, t).is_some() {
             at = put_line(table, arena, counters, t, &mut *page, at);
         }
-        j += 1;
     }
     at
 }

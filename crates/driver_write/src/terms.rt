@@ -6,7 +6,7 @@ ghost use Rattle.dictionary_layout.specs.Dictionary.{term_of, valid};
 ghost use Rattle.dictionary_layout.specs.Values.{contents};
 ghost use Rattle.ntriples_utf8.specs.Promises.{Wrote};
 ghost use Rattle.ntriples_canonical.specs.Writing.{term_text};
-ghost use Rattle.ntriples_text.specs.Promises.{or_nothing, text_length, TextFits};
+ghost use Rattle.ntriples_text.specs.Promises.{or_nothing, text_size, TextFits};
 ghost use Rattle.driver_write.specs.Lines.{Measured, Roomed};
 
 use common::{ENTRY_WIDTH, HEADS_WIDTH, Id};
@@ -21,16 +21,16 @@ pub fn kind_of(table: &[u32], arena: &[u8], counters: Counters, id: Id) -> u32
     table[HEADS_WIDTH + ENTRY_WIDTH * (id.0 as usize) + 2]
 }
 
-// How long the text of an id's term is.
+// How long the text of an id's term is, none where it has none.
 fn term_length(
     table: &[u32],
     arena: &[u8],
     counters: Counters,
     id: usize,
     chars: &mut [u32],
-) -> usize
+) -> Option<usize>
     requires { T (valid (contents table.now arena.now counters)) × (id < counters.terms) × (term_limit ≤ length chars.old) }
-    ensures { result ≡ text_length (term_of (decode (contents table.now arena.now counters)) id) }
+    ensures { result ≡ text_size (term_text (term_of (decode (contents table.now arena.now counters)) id)) }
 {
     let at = HEADS_WIDTH + ENTRY_WIDTH * id;
     let start = table[at] as usize;
@@ -38,7 +38,7 @@ fn term_length(
     text_length(table[at + 2], &arena[start..end], chars)
 }
 
-// Writes how long the texts of all terms are.
+// Writes how long the texts of all terms are; 0 for a term that has none, for the lengths are numbers in fixed memory.
 pub fn term_lengths(
     table: &[u32],
     arena: &[u8],
@@ -50,11 +50,9 @@ pub fn term_lengths(
     ensures { Measured (decode (contents table.now arena.now counters)) counters.terms
         lengths.new }
 {
-    let n = counters.terms as usize;
-    let mut i = 0;
-    while i < n {
-        lengths[i] = term_length(table, arena, counters, i, &mut *chars) as u32;
-        i += 1;
+    for i in 0..counters.terms as usize {
+        let length = term_length(table, arena, counters, i, &mut *chars);
+        lengths[i] = length.unwrap_or(0) as u32;
     }
 }
 

@@ -1,13 +1,18 @@
 -- The loops that read and write numbers as bytes. Assumes nothing.
 use Prim.Native.Nat.{ℕ, zero, suc, ◌+◌, ◌*◌, ◌/◌, ◌%◌, ◌≤◌, ◌<◌}
-use mathlib.Core.Bool.{Bool, true, false, ◌||◌}
+use mathlib.Core.Bool.{Bool, true, false}
 use mathlib.Core.Path.{◌≡◌, refl, sym, ap, ◌∙◌}
 use mathlib.Core.List.{List, [], ◌∷◌, ◌++◌, append-nil, append_assoc}
 use native.Mathlib.Numerals.{add-one}
 use native.Mathlib.Omega.{arith}
-use lib.ListN.{length, take, drop, get_or, set, drop_of_length-le, length-set, replicate}
+use Rattle.std.proofs.Common.{w32, slice_index}
+use borrow.Rule.Slice.PartMut.{put_mid}
+use Rattle.std.specs.Int.{from_le_bytes, to_le_bytes}
+use Rattle.std.proofs.lemmas.Slice.{take-put_mid}
+use Rattle.std.specs.Simd.{first_chunks}
+use Rattle.std.proofs.lemmas.List.{get_or-take, get_or-drop}
+use lib.ListN.{length, take, drop, get_or, set, drop_of_length-le, replicate}
 use lib.Seq.{drop-cons, take-suc-set, append_snoc, take_all}
-use lib.Dec.{eqb}
 use borrow.Author.Tests.{eq-eqb, ne_eqb, le-leb, lt-leb}
 use Rattle.common.specs.Triples.{if}
 use Rattle.edge_bytes.specs.Bytes.{from_bytes, to_bytes, numbers_of, bytes_of, changes, left_bytes, forwarded, cleared}
@@ -36,13 +41,25 @@ numbers_step l k h =
       drop-cons l (suc (suc (suc k))) 0 (omega arith),
     )
 
+-- the elements of the i-th of k arrays of four
+four_index : (k i j : ℕ) (l : List ℕ) → i < k → j < 4 → slice_index (get_or (first_chunks 4 k l) i []) j ≡ get_or l (4 * i + j) 0
+four_index zero i j l h g = absurd (omega arith)
+four_index (suc k) zero j l h g = let e : 4 * 0 + j ≡ j = omega arith in rw e (get_or-take 4 l j 0 g)
+four_index (suc k) (suc i) j l h g =
+    let e : 4 * suc i + j ≡ 4 + (4 * i + j) = omega arith in
+    rw e (four_index k i j (drop 4 l) (omega arith) g ∙ get_or-drop 4 l (4 * i + j) 0)
+
 -- one number more is stored
-pub numbers_more : (l ws all : List ℕ) (i w : ℕ) → i < length ws → 4 * i + 3 < length l
-    → w ≡ number_at l (4 * i) → take i ws ++ numbers_of (drop (4 * i) l) ≡ all
+pub numbers_more : (l ws all : List ℕ) (k i w : ℕ) → i < length ws → i < k → k ≡ length l / 4
+    → w ≡ from_le_bytes w32 (get_or (first_chunks 4 k l) i []) → take i ws ++ numbers_of (drop (4 * i) l) ≡ all
     → take (i + 1) (set ws i w) ++ numbers_of (drop (4 * (i + 1)) l) ≡ all
-numbers_more l ws all i w h k e p =
+numbers_more l ws all k i w h g f e p =
     let n : 4 * (i + 1) ≡ 4 * i + 4 = omega arith in
-    rw (n, add-one i, take-suc-set ws i w h, append_snoc, e, ← numbers_step l (4 * i) k) p
+    let four = λ (j : ℕ) (t : j < 4). four_index k i j l g t in
+    let first : 4 * i + 0 ≡ 4 * i = omega arith in
+    let worth : w ≡ number_at l (4 * i) = omega
+    (arith, rw first at (four 0 (omega arith)), four 1 (omega arith), four 2 (omega arith), four 3 (omega arith)) in
+    rw (n, add-one i, take-suc-set ws i w h, append_snoc, worth, ← numbers_step l (4 * i) (omega arith)) p
 
 pub numbers_done : (l ws all : List ℕ) (i : ℕ) → length ws ≤ i → length l ≤ 4 * i
     → take i ws ++ numbers_of (drop (4 * i) l) ≡ all → ws ≡ all
@@ -56,45 +73,12 @@ bytes_step : (l : List ℕ) (i : ℕ) → i < length l
 unfolding bytes_of
 bytes_step l i h = rw (add-one i, drop-cons l i 0 h)
 
--- four stores in a row
-abbrev set_four : List ℕ → ℕ → ℕ → ℕ → ℕ → ℕ → List ℕ
-set_four l k a b c d = set (set (set (set l k a) (k + 1) b) (k + 2) c) (k + 3) d
-
-four : (l : List ℕ) (k a b c d : ℕ) (rest : List ℕ) → k + 3 < length l
-    → take (k + 4) (set_four l k a b c d) ++ rest ≡ take k l ++ a ∷ b ∷ c ∷ d ∷ rest
-four l k a b c d rest h =
-    let e₁ : k + 1 ≡ suc k = omega arith in
-    let e₂ : k + 2 ≡ suc (suc k) = omega arith in
-    let e₃ : k + 3 ≡ suc (suc (suc k)) = omega arith in
-    let e₄ : k + 4 ≡ suc (suc (suc (suc k))) = omega arith in
-    let l₁ = set l k a in
-    let l₂ = set l₁ (suc k) b in
-    let l₃ = set l₂ (suc (suc k)) c in
-    rw (
-      e₁,
-      e₂,
-      e₃,
-      e₄,
-      take-suc-set l₃ (suc (suc (suc k))) d (simp length-set (omega arith)),
-      take-suc-set l₂ (suc (suc k)) c (simp length-set (omega arith)),
-      take-suc-set l₁ (suc k) b (simp length-set (omega arith)),
-      take-suc-set l k a (omega arith),
-    )
-    (simp append_assoc)
-
 -- one number more is written
-pub bytes_more : (ws bs all : List ℕ) (i : ℕ) → i < length ws → 4 * i + 3 < length bs → take (4 * i) bs ++ bytes_of (drop i ws) ≡ all
-    → let n = get_or ws i 0 in
-    take (4 * (i + 1)) (set_four bs (4 * i) (n % 256) (n / 256 % 256) (n / 65536 % 256) (n / 16777216 % 256))
-    ++ bytes_of (drop (i + 1) ws) ≡ all
-bytes_more ws bs all i h k p =
-    let n = get_or ws i 0 in
-    let q : 4 * (i + 1) ≡ 4 * i + 4 = omega arith in
-    rw (
-      q,
-      four bs (4 * i) (n % 256) (n / 256 % 256) (n / 65536 % 256) (n / 16777216 % 256) (bytes_of (drop (i + 1) ws)) k,
-      ← bytes_step ws i h,
-    ) p
+pub bytes_more : (ws bs all four : List ℕ) (i k : ℕ) → i < length ws → 4 * i + 4 ≤ length bs → four ≡ to_le_bytes w32 (get_or ws i 0)
+    → take (4 * i) bs ++ bytes_of (drop i ws) ≡ all → take (4 * (i + 1)) (put_mid (4 * i) k bs four) ++ bytes_of (drop (i + 1) ws) ≡ all
+bytes_more ws bs all four i k h g e p =
+    let long : length four ≡ 4 = ap length e in
+    rw (take-put_mid (4 * i) k bs four (4 * (i + 1)) (omega arith) (omega arith), append_assoc, e, ← bytes_step ws i h) p
 
 pub bytes_done : (ws bs all : List ℕ) (i : ℕ) → length ws ≤ i → length bs ≤ 4 * i → take (4 * i) bs ++ bytes_of (drop i ws) ≡ all → bs ≡
     all
@@ -103,19 +87,10 @@ bytes_done ws bs all i h k p =
     let q : take (4 * i) bs ++ bytes_of [] ≡ all = rw (drop_of_length-le ws h) at p in
     sym (take_all (4 * i) bs k) ∙ sym (append-nil (take (4 * i) bs)) ∙ q
 
--- whether buffers are changed, as the code finds it
-module _ (n : ℕ) where
-  pub changes_0 : n ≡ 0 → true ≡ changes n
-  unfolding changes
-  changes_0 e = simp (eq-eqb n 0 e)
-
-  pub changes_8 : n ≡ 8 → true ≡ changes n
-  unfolding changes
-  changes_8 e = ap (λ (m : ℕ). eqb m 0 || (eqb m 8 || eqb m 9)) (sym e)
-
-  pub changes_9 : (n ≡ 0 → ⊥) → (n ≡ 8 → ⊥) → eqb n 9 ≡ changes n
-  unfolding changes
-  changes_9 h k = simp (ne_eqb n 0 h, ne_eqb n 8 k)
+-- a call that is not refused may have changed a buffer
+pub changes_0 : (n : ℕ) → n ≡ 0 → true ≡ changes n
+unfolding changes
+changes_0 n e = simp (eq-eqb n 0 e)
 
 -- how many numbers are passed on
 module _ (most more n : ℕ) where

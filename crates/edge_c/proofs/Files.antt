@@ -17,8 +17,7 @@ use Rattle.dictionary_layout.specs.Layout.{Dict, dict, layout, decode}
 use Rattle.dictionary_layout.specs.Dictionary.{valid}
 use Rattle.dictionary_layout.proofs.Choice.{is_true, true→T, false→not_T, decide_bool}
 use Rattle.dictionary_entries.proofs.Appending.{drop_zeros}
-use Rattle.ntriples.specs.Reading.{Outcome, refused, read, read_file, AbstractReadResult, shown, abstract_read}
-use Rattle.ntriples.specs.Reading.{ReadResult, read_gives}
+use Rattle.ntriples.specs.Reading.{Outcome, refused, read, read_file, AbstractReadResult, shown, abstract_read, ReadResult, read_gives}
 use Rattle.ntriples.proofs.Growing.{read_valid, read_broken, read_whole, read_ragged, read_few, file_long}
 use Rattle.driver_read.specs.Values.{read_left}
 use Rattle.driver_read.specs.declared.values.ReadNext.{ReadNext}

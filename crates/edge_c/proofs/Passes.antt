@@ -1,6 +1,8 @@
 -- What an opening call and a pass leave in buffers of bytes. Assumes nothing.
+use Rattle.common.specs.Refusals.{answer_number}
 use mathlib.Core.Path.{◌≡◌, refl, sym, ap, subst, ◌∙◌}
-use mathlib.Core.Bool.{Bool, true, false}
+use mathlib.Core.Bool.{Bool, true, false, cond}
+use mir.Val.{bool_byte}
 use mathlib.Core.List.{List}
 use Prim.Native.Nat.{ℕ, ◌/◌}
 use native.Mathlib.Omega.{arith}
@@ -13,6 +15,7 @@ use Rattle.meaning_turns.specs.Turns.{Turn, going, ended, opening, turn, store_r
 use Rattle.dictionary_layout.specs.Terms.{Term}
 use Rattle.dictionary_layout.specs.Layout.{Dict}
 use Rattle.driver_refusals.specs.Lent.{Lent}
+use Rattle.driver_step.specs.Values.{run_part}
 use Rattle.driver_load.specs.Closed.{five_zeros, store_room, containers}
 use Rattle.driver_step.specs.Step.{kept, done_by, turn_shown, takes_pass, turned}
 use Rattle.driver_turns.specs.Turns.{AbstractTurnResult, open_past, pass_past, past, TurnResult, turn_gives}
@@ -95,21 +98,24 @@ past_alike false h v ts us = open_alike v ts us
 pub by_flag : (d : Dict) (b : Lent) {p q : Bool} {x : TurnResult} → p ≡ q → x ≡ turn_gives (past q) d b → x ≡ turn_gives (past p) d b
 by_flag d b e h = h ∙ ap (λ (c : Bool). turn_gives (past c) d b) (sym e)
 
+-- whether a run is done, as a number
+pub done_byte : (b : Bool) → bool_byte b ≡ cond b 1 0
+done_byte true = refl
+done_byte false = refl
+
 -- THE CALLS, p saying which: the dictionary d has a table of bytes, and the buffers b are bytes; the numbers t and m are passed for them
 module _ (p : Bool) (d : Dict) {b m : Lent} {t : List ℕ} (h : Passed d.table b t m) (s : ReadStore b.store m.store)
-    (r : TurnNext) {t' a' s' f' w' : List ℕ} (e : turn_left r t' a' s' f' w' ≡ turn_gives (past p) (with_table t d) m) where
-  abbrev number : ℕ
-  number = r.answer.run.number
-
+    (r : TurnNext) (t' a' s' f' w' : List ℕ) (e : turn_left r t' a' s' f' w' ≡ turn_gives (past p) (with_table t d) m) where
   -- where the call changes buffers they have room for the numbers that it left
   pub turn_rooms : length t' ≡ length t → length s' ≡ length m.store → length f' ≡ length m.findings
-      → T (changes number) → Roomy t' s' f' d.table b.store b.findings
+      → T (changes (answer_number (run_part r.answer))) → Roomy t' s' f' d.table b.store b.findings
   turn_rooms i j k c = call_rooms (past p) d h (ap (λ (x : TurnResult). x.answer.run.number) e) c i j k
 
   -- the bytes that the code leaves are those that the definition gives
-  pub turn_done : {tb' sb' fb' wb' : List ℕ} → tb' ≡ left_bytes number d.table t' → sb' ≡ left_bytes number b.store s'
-      → fb' ≡ left_bytes number b.findings f' → wb' ≡ cleared number b.work
-      → turn_left r tb' a' sb' fb' wb' ≡ turn_bytes_give (past p) d b
+  pub turn_done : {tb' sb' fb' wb' : List ℕ} → tb' ≡ left_bytes (answer_number (run_part r.answer)) d.table t'
+      → sb' ≡ left_bytes (answer_number (run_part r.answer)) b.store s'
+      → fb' ≡ left_bytes (answer_number (run_part r.answer)) b.findings f'
+      → wb' ≡ cleared (answer_number (run_part r.answer)) b.work → turn_left r tb' a' sb' fb' wb' ≡ turn_bytes_give (past p) d b
   turn_done q x y z =
       (λ i. turn_left r (q i) a' (x i) (y i) (z i))
       ∙ (ap (left_result d.table b) e ∙ call_alike (past p) d h (past_alike p s))

@@ -1,4 +1,5 @@
 -- What a run leaves in buffers of bytes. Assumes nothing.
+use Rattle.common.specs.Refusals.{answer_number}
 use mathlib.Core.Path.{◌≡◌, refl, sym, ap, ◌∙◌}
 use mathlib.Core.Bool.{Bool, true, false}
 use mathlib.Core.List.{List}
@@ -95,16 +96,16 @@ module _ (d : Dict) {b m : Lent} {t : List ℕ} (h : Passed d.table b t m) where
       ∙ ap as_run (call_alike run_past d h closed_alike)
       ∙ sym (ap (run_in_bytes d.table b) (as_call (read_dict d) (read_lent b)))
 
-  module _ (r : RunNext) {t' a' s' f' w' : List ℕ} (e : run_left r t' a' s' f' w' ≡ run_gives (with_table t d) m) where
+  module _ (r : RunNext) (t' a' s' f' w' : List ℕ) (e : run_left r t' a' s' f' w' ≡ run_gives (with_table t d) m) where
     -- where the run changes buffers they have room for the numbers that it left
     pub rooms : length t' ≡ length t → length s' ≡ length m.store → length f' ≡ length m.findings
-        → T (changes r.answer.number) → Roomy t' s' f' d.table b.store b.findings
+        → T (changes (answer_number r.answer)) → Roomy t' s' f' d.table b.store b.findings
     rooms i j k c =
         let number = ap (λ (x : RunResult). x.answer.number) (e ∙ as_call (with_table t d) m) in
         call_rooms run_past d h number c i j k
 
     -- the bytes that the code leaves are those that the definition gives
-    pub run_done : {tb' sb' fb' wb' : List ℕ} → tb' ≡ left_bytes r.answer.number d.table t'
-        → sb' ≡ left_bytes r.answer.number b.store s' → fb' ≡ left_bytes r.answer.number b.findings f'
-        → wb' ≡ cleared r.answer.number b.work → run_left r tb' a' sb' fb' wb' ≡ run_bytes_give d b
+    pub run_done : {tb' sb' fb' wb' : List ℕ} → tb' ≡ left_bytes (answer_number r.answer) d.table t'
+        → sb' ≡ left_bytes (answer_number r.answer) b.store s' → fb' ≡ left_bytes (answer_number r.answer) b.findings f'
+        → wb' ≡ cleared (answer_number r.answer) b.work → run_left r tb' a' sb' fb' wb' ≡ run_bytes_give d b
     run_done p q x y = (λ i. run_left r (p i) a' (q i) (x i) (y i)) ∙ (ap left e ∙ alike)

@@ -1,4 +1,7 @@
 -- A table of bytes as it is passed on, and what start and put leave in it. Assumes nothing.
+use Rattle.std.specs.Prelude.{Result, Ok, Err}
+use Rattle.common.specs.declared.refusal.Refusal.{Refusal}
+use Rattle.common.specs.Refusals.{number_of, answer_number}
 use mathlib.Core.Path.{◌≡◌, refl, sym, ap, subst, ◌∙◌}
 use mathlib.Core.Logic.{◌⊎◌, inl, inr, ⊎_elim, ◌≢◌}
 use mathlib.Core.Bool.{Bool, true, false}
@@ -14,7 +17,7 @@ use Rattle.dictionary_layout.specs.Layout.{Dict, dict, layout}
 use Rattle.dictionary_layout.specs.Dictionary.{sized, start_fits, start_refusal, valid}
 use Rattle.dictionary_layout.specs.Calls.{StartResult, start_result, start_gives, PutResult, put_result, put_gives}
 use Rattle.dictionary_index.specs.Values.{start_left, put_left}
-use Rattle.dictionary_index.specs.declared.values.Started.{Started}
+use Rattle.dictionary_layout.specs.declared.values.Counters.{Counters}
 use Rattle.dictionary_index.specs.declared.values.PutNext.{PutNext}
 use Rattle.dictionary_layout.proofs.Choice.{false→not_T, decide_bool}
 use Rattle.dictionary_layout.proofs.Holding.{valid→, sized→}
@@ -34,6 +37,25 @@ quiet_1 = refl
 
 not_quiet : (n : ℕ) → T (changes n) → false ≡ changes n → ⊥
 not_quiet n t e = false→not_T (changes n) e t
+
+-- THE ANSWERS of start and put: their numbers, and what they leave in a table of bytes
+started_number : (r : Result Counters Refusal) (t a : List ℕ) → (start_left r t a).number ≡ answer_number r
+started_number (Ok c) t a = refl
+started_number (Err e) t a = refl
+
+started_in_bytes : (r : Result Counters Refusal) (t a tb : List ℕ) {l : List ℕ} → l ≡ left_bytes (answer_number r) tb t
+    → start_left r l a ≡ start_in_bytes tb (start_left r t a)
+started_in_bytes (Ok c) t a tb q = ap (λ (m : List ℕ). start_result 0 (dict m a c.terms c.used)) q
+started_in_bytes (Err e) t a tb q = ap (λ (m : List ℕ). start_result (number_of e) (dict m a 0 0)) q
+
+put_number : (c : Counters) (r : Result PutNext Refusal) (t a : List ℕ) → (put_left c r t a).number ≡ answer_number r
+put_number c (Ok r) t a = refl
+put_number c (Err e) t a = refl
+
+left_in_bytes : (c : Counters) (r : Result PutNext Refusal) (t a tb : List ℕ) {l : List ℕ} → l ≡ left_bytes (answer_number r) tb t
+    → put_left c r l a ≡ put_in_bytes tb (put_left c r t a)
+left_in_bytes c (Ok r) t a tb q = ap (λ (m : List ℕ). put_result 0 r.id.0 (dict m a r.counters.terms r.counters.used)) q
+left_in_bytes c (Err e) t a tb q = ap (λ (m : List ℕ). put_result (number_of e) 0 (dict m a c.terms c.used)) q
 
 too_short : (n al : ℕ) → n < heads_width → T (sized n al) → ⊥
 too_short n al h s = omega (arith, (sized→ n al s).low)
@@ -110,26 +132,23 @@ module _ (tb t a : List ℕ) (h : TableForwarded tb (length t)) where
           ∙ ap (λ (l : List ℕ). refused (suc n) l) (same_left (suc n) tb t (read_buffer tb) k)
           ∙ ap (start_in_bytes tb) (start_refuses (read_buffer tb) a (suc n) (sym e ∙ same_refusal) z)
 
-  module _ (r : Started) {t' a' : List ℕ} (e : start_left r t' a' ≡ start_gives t a) where
-    pub start_room : length t' ≡ length t → T (changes r.number) → length tb ≡ 4 * length t'
+  module _ (r : Result Counters Refusal) (t' a' : List ℕ) (e : start_left r t' a' ≡ start_gives t a) where
+    pub start_room : length t' ≡ length t → T (changes (answer_number r)) → length tb ≡ 4 * length t'
     start_room k c =
         subst (λ (n : ℕ). length tb ≡ 4 * n) (sym k)
         (table_whole h (length a) (refusal_none (length t) (length a) (none (start_refusal (length t) (length a)) refl)).0)
       where
-        number : r.number ≡ start_refusal (length t) (length a)
-        number = ap (λ (x : StartResult). x.number) e ∙ start_number t a
+        number : answer_number r ≡ start_refusal (length t) (length a)
+        number = sym (started_number r t' a') ∙ ap (λ (x : StartResult). x.number) e ∙ start_number t a
 
         none : (n : ℕ) → start_refusal (length t) (length a) ≡ n → start_refusal (length t) (length a) ≡ 0
         none zero q = q
         none (suc n) q =
-            absurd (not_quiet r.number c (subst (λ (m : ℕ). false ≡ changes m) (sym number)
+            absurd (not_quiet (answer_number r) c (subst (λ (m : ℕ). false ≡ changes m) (sym number)
             (start_quiet (length t) (length a) (λ z. omega arith))))
 
-    pub started : {tb' : List ℕ} → tb' ≡ left_bytes r.number tb t'
-        → start_result r.number (dict tb' a' r.counters.terms r.counters.used) ≡ start_bytes_give tb a
-    started q =
-        ap (λ (l : List ℕ). start_result r.number (dict l a' r.counters.terms r.counters.used)) q
-        ∙ (ap (start_in_bytes tb) e ∙ start_alike)
+    pub started : {tb' : List ℕ} → tb' ≡ left_bytes (answer_number r) tb t' → start_left r tb' a' ≡ start_bytes_give tb a
+    started q = started_in_bytes r t' a' tb q ∙ (ap (start_in_bytes tb) e ∙ start_alike)
 
 -- PUT, and every call that is lent a dictionary: its contents are passed on, or others that are broken too
 abbrev pub with_table : List ℕ → Dict → Dict
@@ -174,17 +193,14 @@ module _ (d : Dict) {t : List ℕ} (h : ReadTable d.table t) where
         refused : List ℕ → PutResult
         refused l = put_result 1 0 (with_table l d)
 
-    module _ (r : PutNext) {t' a' : List ℕ} (e : put_left r t' a' ≡ put_gives (with_table t d) x) where
-      pub put_room : length t' ≡ length t → T (changes r.number) → length d.table ≡ 4 * length t'
-      put_room k c = ⊎_elim (λ v. dict_room t' k v) (λ f. absurd (refused f)) (decide_bool (valid (with_table t d)))
+    module _ (c : Counters) (r : Result PutNext Refusal) (t' a' : List ℕ) (e : put_left c r t' a' ≡ put_gives (with_table t d) x) where
+      pub put_room : length t' ≡ length t → T (changes (answer_number r)) → length d.table ≡ 4 * length t'
+      put_room k h = ⊎_elim (λ v. dict_room t' k v) (λ f. absurd (refused f)) (decide_bool (valid (with_table t d)))
         where
           refused : (T (valid (with_table t d)) → ⊥) → ⊥
           refused f =
-              let q = ap (λ (y : PutResult). y.number) (e ∙ put_broken (with_table t d) x f) in
-              not_quiet 1 (subst (λ (m : ℕ). T (changes m)) q c) quiet_1
+              let q = sym (put_number c r t' a') ∙ ap (λ (y : PutResult). y.number) (e ∙ put_broken (with_table t d) x f) in
+              not_quiet 1 (subst (λ (m : ℕ). T (changes m)) q h) quiet_1
 
-      pub put_done : {tb' : List ℕ} → tb' ≡ left_bytes r.number d.table t'
-          → put_result r.number r.id.0 (dict tb' a' r.counters.terms r.counters.used) ≡ put_bytes_give d x
-      put_done q =
-          ap (λ (l : List ℕ). put_result r.number r.id.0 (dict l a' r.counters.terms r.counters.used)) q
-          ∙ (ap (put_in_bytes d.table) e ∙ put_alike)
+      pub put_done : {tb' : List ℕ} → tb' ≡ left_bytes (answer_number r) d.table t' → put_left c r tb' a' ≡ put_bytes_give d x
+      put_done q = left_in_bytes c r t' a' d.table q ∙ (ap (put_in_bytes d.table) e ∙ put_alike)

@@ -10,22 +10,26 @@ ghost use Rattle.edge_c.specs.Forwarded.{table_forwarded};
 ghost use Rattle.edge_c.specs.Calls.{read_dict, start_bytes_give, put_bytes_give, Places};
 ghost use Rattle.edge_c.specs.Values.{placed};
 
-use common::{ENTRY_WIDTH, HEADS_WIDTH, TABLE_LIMIT};
-use dictionary_index::{Counters, PutNext, Started, is_valid, put_by_value, start};
-use edge_bytes::{how_many, read_numbers, write_back};
+use common::{ENTRY_WIDTH, HEADS_WIDTH, Refusal, TABLE_LIMIT};
+use dictionary_index::{Counters, PutNext, is_valid, put_by_value, start};
+use edge_bytes::{how_many, number_of_answer, read_numbers, write_back};
 
 // Start, with as many numbers as it is passed. What stood in the table is not read.
-fn start_on(numbers: &mut [u32], table: &mut [u8], arena: &mut [u8]) -> Started
+fn start_on(numbers: &mut [u32], table: &mut [u8], arena: &mut [u8]) -> Result<Counters, Refusal>
     requires { length numbers.old ≡ table_forwarded (length table.old) }
     ensures { start_left result table.new arena.new ≡ start_bytes_give table.old arena.old }
 {
     let started = start(&mut *numbers, arena);
-    write_back(started.number, &*numbers, table);
+    write_back(number_of_answer(&started), &*numbers, table);
     started
 }
 
 // Start, with numbers that suffice for every table.
-pub fn start_in(numbers: &mut [u32], table: &mut [u8], arena: &mut [u8]) -> Started
+pub fn start_in(
+    numbers: &mut [u32],
+    table: &mut [u8],
+    arena: &mut [u8],
+) -> Result<Counters, Refusal>
     requires { table_limit ≤ length numbers.old }
     ensures { start_left result table.new arena.new ≡ start_bytes_give table.old arena.old }
 {
@@ -41,14 +45,14 @@ fn put_on(
     counters: Counters,
     kind: u32,
     bytes: &[u8],
-) -> PutNext
+) -> Result<PutNext, Refusal>
     requires { length numbers.old ≡ table_forwarded (length table.old) }
-    ensures { put_left result table.new arena.new
+    ensures { put_left counters result table.new arena.new
         ≡ put_bytes_give (contents table.old arena.old counters) (term kind bytes.now) }
 {
     read_numbers(&*table, &mut *numbers);
     let next = put_by_value(&mut *numbers, arena, counters, kind, bytes);
-    write_back(next.number, &*numbers, table);
+    write_back(number_of_answer(&next), &*numbers, table);
     next
 }
 
@@ -61,9 +65,9 @@ pub fn put_in(
     used: u32,
     kind: u32,
     bytes: &[u8],
-) -> PutNext
+) -> Result<PutNext, Refusal>
     requires { table_limit ≤ length numbers.old }
-    ensures { put_left result table.new arena.new
+    ensures { put_left (record { terms = terms; used = used }) result table.new arena.new
         ≡ put_bytes_give (dict table.old arena.old terms used) (term kind bytes.now) }
 {
     let counters = Counters { terms, used };

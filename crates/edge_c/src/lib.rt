@@ -39,10 +39,18 @@ pub extern "C" fn tablestork_start(
         ≡ start_bytes_give table.old arena.old }
 {
     let mut numbers = [0u32; TABLE_LIMIT];
-    let started = start_in(&mut numbers, table, arena);
-    *terms = started.counters.terms;
-    *used = started.counters.used;
-    started.number
+    match start_in(&mut numbers, table, arena) {
+        Ok(counters) => {
+            *terms = counters.terms;
+            *used = counters.used;
+            0
+        }
+        Err(refusal) => {
+            *terms = 0;
+            *used = 0;
+            refusal.number()
+        }
+    }
 }
 
 // Puts a term: refusal 1, 10, 11, 7 or 0. The id is written, and the counters change with the table and the arena.
@@ -62,11 +70,18 @@ pub extern "C" fn tablestork_put(
         (term kind bytes.now) }
 {
     let mut numbers = [0u32; TABLE_LIMIT];
-    let next = put_in(&mut numbers, table, arena, *terms, *used, kind, bytes);
-    *terms = next.counters.terms;
-    *used = next.counters.used;
-    *id = next.id.0;
-    next.number
+    match put_in(&mut numbers, table, arena, *terms, *used, kind, bytes) {
+        Ok(next) => {
+            *terms = next.counters.terms;
+            *used = next.counters.used;
+            *id = next.id.0;
+            0
+        }
+        Err(refusal) => {
+            *id = 0;
+            refusal.number()
+        }
+    }
 }
 
 // Looks a term up: refusal 1, 12 or 0. The kind, and the place and the length of the term's bytes in the arena are written.
@@ -123,10 +138,19 @@ pub extern "C" fn tablestork_run(
     );
     *terms = next.counters.terms;
     *used = next.counters.used;
-    *triples = next.answer.count;
-    let five = next.answer.counts;
-    *counts = five;
-    next.answer.number
+    match next.answer {
+        Ok(answer) => {
+            *triples = answer.count;
+            let five = answer.counts;
+            *counts = five;
+            0
+        }
+        Err(refusal) => {
+            *triples = 0;
+            *counts = [0; 5];
+            refusal.number()
+        }
+    }
 }
 
 // Opens a run: refusal 1 to 8 or 0. The triple count, 0 for not done and five zeros are written.
@@ -161,11 +185,21 @@ pub extern "C" fn tablestork_open(
     );
     *terms = next.counters.terms;
     *used = next.counters.used;
-    *triples = next.answer.run.count;
-    *done = next.answer.done;
-    let five = next.answer.run.counts;
-    *counts = five;
-    next.answer.run.number
+    match next.answer {
+        Ok(answer) => {
+            *triples = answer.run.count;
+            *done = u32::from(answer.done);
+            let five = answer.run.counts;
+            *counts = five;
+            0
+        }
+        Err(refusal) => {
+            *triples = 0;
+            *done = 0;
+            *counts = [0; 5];
+            refusal.number()
+        }
+    }
 }
 
 // One pass of a run: refusal 1 to 9 or 0, of which 4 is tried once more, after 7. The triple count, whether the run is done and the five
@@ -201,11 +235,21 @@ pub extern "C" fn tablestork_pass(
     );
     *terms = next.counters.terms;
     *used = next.counters.used;
-    *triples = next.answer.run.count;
-    *done = next.answer.done;
-    let five = next.answer.run.counts;
-    *counts = five;
-    next.answer.run.number
+    match next.answer {
+        Ok(answer) => {
+            *triples = answer.run.count;
+            *done = u32::from(answer.done);
+            let five = answer.run.counts;
+            *counts = five;
+            0
+        }
+        Err(refusal) => {
+            *triples = 0;
+            *done = 0;
+            *counts = [0; 5];
+            refusal.number()
+        }
+    }
 }
 
 // Reads a file: refusal 1, 2, 14, 13, 11, 7, 3 or 0. The triple count is written.
@@ -253,10 +297,19 @@ pub extern "C" fn tablestork_write(
 {
     let mut t = [0u32; TABLE_LIMIT];
     let mut s = [0u32; STORE];
-    let next = write_in(
+    let written = write_in(
         &mut t, &mut s, table, arena, terms, used, store, triples, page,
     );
-    *length = next.used as u64;
-    *left = next.left;
-    next.number
+    match written {
+        Ok(next) => {
+            *length = next.used as u64;
+            *left = next.left;
+            0
+        }
+        Err(refusal) => {
+            *length = 0;
+            *left = 0;
+            refusal.number()
+        }
+    }
 }

@@ -12,7 +12,7 @@ use crate::sizes::{FINDINGS, LOAD, LONGER_LOAD, STORE, WORK};
 use common::{LOAD_WIDTH, TABLE_LIMIT};
 use dictionary_index::Counters;
 use driver_run::{RunNext, run};
-use edge_bytes::{clear_back, how_many, read_numbers, write_back};
+use edge_bytes::{clear_back, how_many, number_of_answer, read_numbers, write_back};
 
 // Writes the numbers that a run, an opening call or a pass left back into their buffers, and zeros the list work buffer, unless its answer
 // says that it changed none.
@@ -63,7 +63,7 @@ fn run_on(
     read_numbers(load, &mut *l);
     let next = run(&mut *t, arena, counters, &*l, &mut *s, &mut *f, w);
     write_all(
-        next.answer.number,
+        number_of_answer(&next.answer),
         &*t,
         &*s,
         &*f,

@@ -13,7 +13,7 @@ use crate::sizes::{FINDINGS, LOAD, LONGER_LOAD, STORE, WORK};
 use common::{LOAD_WIDTH, TABLE_LIMIT};
 use dictionary_index::Counters;
 use driver_turns::{TurnNext, open, pass};
-use edge_bytes::{how_many, read_numbers};
+use edge_bytes::{how_many, number_of_answer, read_numbers};
 
 // A pass, or else an opening call, over numbers.
 fn turn(
@@ -64,7 +64,7 @@ fn turn_on(
     read_numbers(&*store, &mut *s);
     let next = turn(passes, &mut *t, arena, counters, &*l, &mut *s, &mut *f, w);
     write_all(
-        next.answer.run.number,
+        number_of_answer(&next.answer),
         &*t,
         &*s,
         &*f,

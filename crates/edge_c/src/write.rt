@@ -7,7 +7,7 @@ ghost use Rattle.edge_c.specs.Calls.{write_bytes_give};
 ghost use Rattle.edge_c.specs.Forwarded.{store_forwarded, ForwardedStore, EnoughStore, RowsRead};
 
 use crate::sizes::STORE;
-use common::{STORE_WIDTH, TABLE_LIMIT};
+use common::{Refusal, STORE_WIDTH, TABLE_LIMIT};
 use dictionary_index::Counters;
 use driver_write::{WriteNext, write};
 use edge_bytes::{how_many, read_numbers};
@@ -34,7 +34,7 @@ fn write_on(
     store: &[u8],
     triples: u32,
     page: &mut [u8],
-) -> WriteNext
+) -> Result<WriteNext, Refusal>
     requires { ForwardedStore t.old s.old table.now store.now }
     ensures { write_left result page.new
         ≡ write_bytes_give (contents table.now arena.now counters) store.now triples
@@ -56,7 +56,7 @@ pub fn write_in(
     store: &[u8],
     triples: u32,
     page: &mut [u8],
-) -> WriteNext
+) -> Result<WriteNext, Refusal>
     requires { EnoughStore t.old s.old }
     ensures { write_left result page.new
         ≡ write_bytes_give (dict table.now arena.now terms used) store.now triples

@@ -3,9 +3,13 @@ use mathlib.Core.Path.{◌≡◌, refl, sym, ap, subst, ◌∙◌}
 use mathlib.Core.Logic.{◌≢◌}
 use mathlib.Core.Bool.{Bool, true, false}
 use mathlib.Core.List.{List, [], ◌∷◌, ◌++◌}
-use Prim.Native.Nat.{ℕ, zero, suc, ◌+◌, ◌/◌, ◌≤◌}
+use Prim.Native.Nat.{ℕ, zero, suc, ◌/◌, ◌≤◌}
 use native.Mathlib.Omega.{arith}
-use lib.ListN.{length, get_or, take, replicate}
+use lib.ListN.{length, take, replicate}
+use Rattle.std.specs.Prelude.{Result, Ok, Err}
+use Rattle.common.specs.declared.refusal.Refusal.{Refusal}
+use Rattle.common.specs.Refusals.{number_of}
+use Rattle.common.proofs.Refusals.{numbered}
 use Rattle.common.specs.Triples.{Triple, Finding, if, no_zero, without_zero, erase}
 use Rattle.meaning.specs.Closure.{closure, five_counts, total}
 use Rattle.common.specs.Rows.{triples}
@@ -105,27 +109,33 @@ ran_as n load store findings x d {r} {t} {a} {s} {f} {w} e₁ e₂ e₃ =
       found = ap (λ (y : RunResult). y.answer.findings) e;
     }
 
+-- another value that is the same answer
+pub ran_with : {a : AnswerOfRun} {r r' : Result RunAnswer Refusal} {s f : List ℕ} → r ≡ r' → Ran a r s f → Ran a r' s f
+ran_with {a} {s = s} {f = f} e h = subst (λ (r : Result RunAnswer Refusal). Ran a r s f) e h
+
 -- in the program's buffers
 abbrev run_of : ℕ → List ℕ → AnswerOfRun
 run_of n load = ran n load (replicate store_length 0) (replicate findings_length 0)
 
-module _ (n : ℕ) (load : List ℕ) {r : RunAnswer} {s f : List ℕ} (h : Ran (run_of n load) r s f) where
+module _ (n : ℕ) (load : List ℕ) where
   -- a refused run in print
-  pub refusal_printed : r.number ≢ 0 → refusal r.number ≡ printed_run n load
+  pub refusal_printed : {e : Refusal} {s f : List ℕ} {k : ℕ} → Ran (run_of n load) (Err e) s f → k ≡ number_of e
+      → refusal k ≡ printed_run n load
   unfolding printed_run
-  refusal_printed z = go r.number z ∙ ap (λ (k : ℕ). by_number k (run_of n load)) h.number
+  refusal_printed {e} h z =
+      ap refusal z ∙ go (number_of e) (numbered e) ∙ ap (λ (k : ℕ). by_number k (run_of n load)) h.number
     where
       go : (k : ℕ) → k ≢ 0 → refusal k ≡ by_number k (run_of n load)
       go zero z = absurd (z refl)
       go (suc k) z = refl
 
-  module _ (z : r.number ≡ 0) where
+  module _ {r : RunAnswer} {s f : List ℕ} (h : Ran (run_of n load) (Ok r) s f) where
     -- the counts of an accepted run fit into the program's buffers
     run_fits : Counted (run_of n load) triple_limit record_limit
     unfolding ran
     run_fits =
         counted (lent load (replicate store_length 0) (replicate findings_length 0) (replicate work_length 0)) (dictionary n)
-        (sym h.number ∙ z)
+        (sym h.number)
 
     -- so the records can be counted,
     pub run_counted : (length r.counts ≡ 5) × (total r.counts ≤ record_limit)
@@ -147,8 +157,7 @@ module _ (n : ℕ) (load : List ℕ) {r : RunAnswer} {s f : List ℕ} (h : Ran (
     unfolding printed_run
     answer_printed e =
         let k = e ∙ ap total h.counts in
-        (λ i. answer (h.stored i) (h.count i) (h.found i) (k i))
-        ∙ ap (λ (j : ℕ). by_number j (run_of n load)) (sym z ∙ h.number)
+        (λ i. answer (h.stored i) (h.count i) (h.found i) (k i)) ∙ ap (λ (j : ℕ). by_number j (run_of n load)) h.number
 
 -- THE OUTPUT, by what was read
 pub output_bad : (text : List ℕ) {k : ℕ} → parse text ≡ bad_line k → bad_line_text k ≡ output text
@@ -172,13 +181,3 @@ output_read room n text l e = ap output (e ∙ ap (λ (k : ℕ). take k text) l)
 -- other bytes that are the same
 pub wrote_as : {old bytes bytes' new : List ℕ} {next : ℕ} → bytes ≡ bytes' → Wrote old 0 bytes new next → Wrote old 0 bytes' new next
 wrote_as {old} {new = new} {next = next} e w = subst (λ (b : List ℕ). Wrote old 0 b new next) e w
-
--- five numbers
-pub five_sum : (l : List ℕ) → length l ≡ 5 → total l ≡ get_or l 0 0 + get_or l 1 0 + get_or l 2 0 + get_or l 3 0 + get_or l 4 0
-five_sum [] e = absurd (omega arith)
-five_sum (a ∷ []) e = absurd (omega arith)
-five_sum (a ∷ b ∷ []) e = absurd (omega arith)
-five_sum (a ∷ b ∷ c ∷ []) e = absurd (omega arith)
-five_sum (a ∷ b ∷ c ∷ d ∷ []) e = absurd (omega arith)
-five_sum (a ∷ b ∷ c ∷ d ∷ x ∷ []) e = omega arith
-five_sum (a ∷ b ∷ c ∷ d ∷ x ∷ y ∷ l) e = absurd (omega arith)

@@ -14,7 +14,7 @@ use Rattle.dictionary_layout.specs.Terms.{Term, term, start_terms, run_terms}
 use Rattle.dictionary_layout.specs.Layout.{Dict, size, layout}
 use Rattle.dictionary_layout.specs.Dictionary.{place_of, kind_known, short, roomy, put_answer, put_at, abstract_put, full, all_put}
 use Rattle.dictionary_layout.specs.Dictionary.{if_zero, put_all, sized, start_fits, start_refusal}
-use Rattle.dictionary_layout.specs.Calls.{StartResult, start_gives, PutResult, put_gives}
+use Rattle.dictionary_layout.specs.Calls.{StartResult, start_result, start_gives, PutResult, put_gives}
 use Rattle.dictionary_layout.proofs.Decoding.{size_append}
 use Rattle.dictionary_layout.proofs.Holding.{Added, put_cases, Holds, holds_start, holds_put}
 use Rattle.dictionary_layout.proofs.Reachable.{start_accepts}
@@ -114,23 +114,29 @@ unfolding start_refusal start_terms
 start_ok = refl
 
 -- leaves the start's terms,
-started : (table arena : List ℕ) → length table ≡ table_length → length arena ≡ arena_length
-    → (start_gives table arena).contents ≡ layout table_length arena_length start_terms
-started table arena e f =
-    ap (λ (r : StartResult). r.contents) (start_accepts table arena ((λ i. start_refusal (e i) (f i)) ∙ start_ok))
-    ∙ (λ i. layout (e i) (f i) start_terms)
+started : start_gives (replicate table_length 0) (replicate arena_length 0)
+    ≡ start_result 0 (layout table_length arena_length start_terms)
+started =
+    let t = zeros_length table_length in
+    let a = zeros_length arena_length in
+    start_accepts (replicate table_length 0) (replicate arena_length 0) ((λ i. start_refusal (t i) (a i)) ∙ start_ok)
+    ∙ (λ i. start_result 0 (layout (t i) (a i) start_terms))
 
 -- and has room for them
 start_room : T (sized table_length arena_length) × T (start_fits table_length arena_length)
 unfolding start_terms
 start_room = (tt, tt)
 
+-- so its number is 0
+pub start_zero : (start_gives (replicate table_length 0) (replicate arena_length 0)).number ≡ 0
+start_zero = ap (λ (r : StartResult). r.number) started
+
 -- no name
 start_named : Named 0
 unfolding dictionary named
 start_named = record {
   terms = start_terms;
-  is = started (replicate table_length 0) (replicate arena_length 0) (zeros_length table_length) (zeros_length arena_length);
+  is = ap (λ (r : StartResult). r.contents) started;
   holds = holds_start table_length arena_length start_room.0 start_room.1;
   few = omega arith;
   small = omega arith;

@@ -1,15 +1,18 @@
 -- What the functions promise. Assumes nothing.
-use Rattle.std.specs.Prelude.{◌≡◌, List, ℕ, length, take}
+use Rattle.std.specs.Prelude.{◌≡◌, Result, List, ℕ, length, take}
+use Rattle.common.specs.declared.refusal.Refusal.{Refusal}
+use Rattle.common.specs.Refusals.{answer_number}
 use Rattle.edge_decimal.specs.Promises.{Wrote}
 use Rattle.driver_load.specs.Closed.{AnswerOfRun}
+use Rattle.driver_load.specs.Values.{count_of, counts_of}
 use Rattle.driver_load.specs.declared.values.RunAnswer.{RunAnswer}
 use Rattle.edge_closer_run.specs.Program.{output}
 
 -- the answer of a run, with store and findings as they are left
-pub record Ran (a : AnswerOfRun) (r : RunAnswer) (store findings : List ℕ) : Type 0 where
-  pub number : r.number ≡ a.number
-  pub count : r.count ≡ a.count
-  pub counts : r.counts ≡ a.counts
+pub record Ran (a : AnswerOfRun) (r : Result RunAnswer Refusal) (store findings : List ℕ) : Type 0 where
+  pub number : answer_number r ≡ a.number
+  pub count : count_of r ≡ a.count
+  pub counts : counts_of r ≡ a.counts
   pub stored : store ≡ a.store
   pub found : findings ≡ a.findings
 

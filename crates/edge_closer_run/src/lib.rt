@@ -9,12 +9,12 @@ ghost use Rattle.edge_closer_text.specs.Sizes.{record_limit, output_length};
 ghost use Rattle.edge_closer_run.specs.Program.{named, ran, printed_run, output};
 ghost use Rattle.edge_closer_run.specs.Promises.{Ran, Printed};
 
-use common::{ENTRY_WIDTH, HEADS_WIDTH, LOAD_WIDTH, WORK_WIDTH};
-use dictionary_index::{Counters, put_by_value, start};
+use common::{ENTRY_WIDTH, HEADS_WIDTH, LOAD_WIDTH, Refusal, WORK_WIDTH};
+use dictionary_index::{Counters, put, start};
 use driver_run::{RunAnswer, run};
 use edge_closer_text::{
-    FINDINGS, IDS, LONGEST, NAME, Parsed, STORE, parse, print_answer, print_bad_line, print_name,
-    print_refusal,
+    BadLine, FINDINGS, IDS, Input, LONGEST, NAME, STORE, parse, print_answer, print_bad_line,
+    print_name, print_refusal,
 };
 
 // How many bytes the program reads: one more than the longest good input has. So many decide as much as the whole input, as `close_read`
@@ -37,26 +37,29 @@ fn put_names(table: &mut [u32], arena: &mut [u8], counters: Counters, count: u32
 {
     let mut name = [0u8; NAME];
     let mut left = counters;
-    let mut n = 0;
-    while n < count {
-        n += 1;
+    for n in 1..=count {
         let end = print_name(n, &mut name);
-        let put = put_by_value(&mut *table, &mut *arena, left, 1, &name[..end]);
-        left = put.counters;
+        // a refused put leaves the counters as they were
+        let _ = put(&mut *table, &mut *arena, &mut left, 1, &name[..end]);
     }
     left
 }
 
 // A run of a load over a new dictionary that holds so many names.
-fn run_input(count: u32, load: &[u32], store: &mut [u32], findings: &mut [u32]) -> RunAnswer
+fn run_input(
+    count: u32,
+    load: &[u32],
+    store: &mut [u32],
+    findings: &mut [u32],
+) -> Result<RunAnswer, Refusal>
     ensures { Ran (ran count load.now store.old findings.old) result
         store.new findings.new }
 {
     let mut table = [0u32; TABLE];
     let mut arena = [0u8; ARENA];
     let mut work = [0u32; WORK];
-    let started = start(&mut table, &mut arena);
-    let counters = put_names(&mut table, &mut arena, started.counters, count);
+    let started = start(&mut table, &mut arena).unwrap();
+    let counters = put_names(&mut table, &mut arena, started, count);
     let next = run(
         &mut table, &mut arena, counters, load, store, findings, &mut work,
     );
@@ -68,7 +71,7 @@ fn total(counts: [u32; 5]) -> u32
     requires { (length counts ≡ 5) × (sum counts ≤ record_limit) }
     ensures { result ≡ sum counts }
 {
-    counts[0] + counts[1] + counts[2] + counts[3] + counts[4]
+    counts.iter().sum()
 }
 
 // Prints what a run of a load gives.
@@ -78,13 +81,13 @@ fn print_run(count: u32, load: &[u32], out: &mut [u8]) -> usize
 {
     let mut store = [0u32; STORE];
     let mut findings = [0u32; FINDINGS];
-    let answer = run_input(count, load, &mut store, &mut findings);
-    if answer.number != 0 {
-        return print_refusal(answer.number, out);
+    match run_input(count, load, &mut store, &mut findings) {
+        Ok(answer) => {
+            let records = total(answer.counts);
+            print_answer(&store, answer.count, &findings, records, out)
+        }
+        Err(refusal) => print_refusal(refusal.number(), out),
     }
-    let counts = answer.counts;
-    let records = total(counts);
-    print_answer(&store, answer.count, &findings, records, out)
 }
 
 // Writes to `out` what the program prints for an input, and answers how many bytes it is.
@@ -93,13 +96,9 @@ pub fn close_input(input: &[u8], out: &mut [u8]) -> usize
     ensures { Wrote out.old 0 (output input.now) out.new result }
 {
     let mut ids = [0u32; IDS];
-    let parsed = parse(input, &mut ids);
-    match parsed {
-        Parsed::Bad(number) => print_bad_line(number, out),
-        Parsed::Input { count, lines } => {
-            let end = LOAD_WIDTH * lines;
-            print_run(count, &ids[..end], out)
-        }
+    match parse(input, &mut ids) {
+        Ok(Input { count, lines }) => print_run(count, &ids[..LOAD_WIDTH * lines], out),
+        Err(BadLine { number }) => print_bad_line(number, out),
     }
 }
 

@@ -12,8 +12,7 @@ use lib.ListN.{length, take, drop, length-take}
 use lib.Seq.{take-nil}
 use borrow.Author.Tests.{leb-true, leb-false}
 use Rattle.edge_decimal.proofs.Digits.{either}
-use Rattle.edge_closer_text.specs.Sizes.{line_limit, last_line, line_over_limit, count_width, three_width, longest_input}
-use Rattle.edge_closer_text.specs.Sizes.{input_length}
+use Rattle.edge_closer_text.specs.Sizes.{line_limit, last_line, line_over_limit, count_width, three_width, longest_input, input_length}
 use Rattle.edge_closer_text.specs.Input.{before, lines, id_line, count_line, id_lines, read_lines, read, parsed, parse}
 use Rattle.edge_closer_text.proofs.Parts.{after_line, lines_next}
 use Rattle.edge_closer_text.proofs.Lengths.{short_count, short_ids, ids_over, ids_stop, ids_next}

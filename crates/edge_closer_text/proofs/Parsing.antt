@@ -1,33 +1,30 @@
 -- The whole input: the loop over its lines, and what the answer says. Assumes nothing.
-use mathlib.Core.Path.{◌≡◌, refl, sym, ap, subst, ◌∙◌}
+use mathlib.Core.Path.{◌≡◌, refl, sym, ap, ◌∙◌}
 use mathlib.Core.Option.{some, none}
 use mathlib.Core.List.{List, [], ◌∷◌, ◌++◌}
 use Prim.Native.Nat.{ℕ, suc, ◌+◌, ◌-◌, ◌*◌, ◌≤◌, ◌<◌}
-use native.Mathlib.Numerals.{add-one, add-two}
 use native.Mathlib.Omega.{arith}
-use lib.ListN.{length, take, drop, set, drop_of_length-le}
+use lib.ListN.{length, take, drop, drop_of_length-le}
 use lib.Seq.{sets, length-sets, length-take-le, take-nil}
 use borrow.Author.Tests.{le-leb}
+use Rattle.std.specs.Prelude.{Ok, Err}
 use Rattle.common.specs.Sizes.{load_width}
 use Rattle.edge_decimal.proofs.Numerals.{number_empty}
 use Rattle.edge_decimal.proofs.Writing.{sets_append, take_sets}
-use Rattle.edge_closer_text.specs.Sizes.{count_limit, line_limit, last_line, line_over_limit, ids_length}
-use Rattle.edge_closer_text.specs.Input.{before, parts, lines, id_line, count_line, reading, id_lines, read_lines, read, bad_line}
-use Rattle.edge_closer_text.specs.Input.{input, parse}
-use Rattle.edge_closer_text.specs.Promises.{part, parsed_of, lines_of, ParseOf}
-use Rattle.edge_closer_text.specs.declared.input.Parsed.{Parsed as Answer}
-use Rattle.edge_closer_text.specs.declared.input.Parsed.TheVariants.{Bad, Input}
+use Rattle.edge_closer_text.specs.Sizes.{count_limit, line_limit, last_line, ids_length}
+use Rattle.edge_closer_text.specs.Input.{before, parts, lines, id_line, count_line, reading, id_lines, read_lines, read, parse}
+use Rattle.edge_closer_text.specs.Promises.{part, ParseOf}
 use Rattle.edge_closer_text.proofs.Parts.{found_within, found_line}
 
 -- THE WHOLE INPUT. What was read decides the answer.
 parse_bad : {text old : List ℕ} (n : ℕ) (is : List ℕ) (j : ℕ) {new : List ℕ} → read text ≡ reading n is (some j)
-    → new ≡ sets old 0 is → ParseOf text old (Bad j) new
+    → new ≡ sets old 0 is → ParseOf text old (Err (record { number = j })) new
 unfolding parse
 parse_bad {text} {old} n is j {new} e k = record { answer = rw e refl; ids = k ∙ ap (λ r. sets old 0 r.ids) (sym e); few = omega arith }
 
 -- an input without a bad line
 parse_good : {text old : List ℕ} (n k : ℕ) {new : List ℕ} → read text ≡ reading n (take (load_width * k) new) none
-    → new ≡ sets old 0 (take (load_width * k) new) → k ≤ line_limit → ParseOf text old (Input n k) new
+    → new ≡ sets old 0 (take (load_width * k) new) → k ≤ line_limit → ParseOf text old (Ok (record { count = n; lines = k })) new
 unfolding parse
 parse_good {text} {old} n k {new} e kept few = record { answer = rw e refl; ids = kept ∙ ap (λ r. sets old 0 r.ids) (sym e); few = few }
 
@@ -38,7 +35,7 @@ first_line text first h is = let z : first - 0 ≡ first = omega arith in found_
 
 -- the count's line is bad; so it is where the text is empty
 pub count_bad : (text old : List ℕ) (first : ℕ) → first ≡ 0 + length (before 10 (drop 0 text))
-    → count_line (take first text) ≡ none → ParseOf text old (Bad 1) old
+    → count_line (take first text) ≡ none → ParseOf text old (Err (record { number = 1 })) old
 unfolding read parts
 count_bad text old first is e = parse_bad 0 [] 1 (go text first is e) refl
   where
@@ -76,12 +73,8 @@ lines_start text old first n room is e = record {
     go (b ∷ bs) first is e = ap read_lines (first_line (b ∷ bs) first (omega arith) is) ∙ rw e refl
 
 module _ {text old : List ℕ} {n : ℕ} {new : List ℕ} {end k : ℕ} (c : LinesRead text old n new end k) where
-  -- the buffer keeps its length
-  pub lines_length : length new ≡ length old
-  lines_length = ap length c.kept ∙ length-sets old 0 (take (load_width * k) new)
-
   -- no line is left
-  pub lines_end : length text ≤ end + 1 → ParseOf text old (Input n k) new
+  pub lines_end : length text ≤ end + 1 → ParseOf text old (Ok (record { count = n; lines = k })) new
   unfolding id_lines parts
   lines_end h = parse_good n k (c.left ∙ rw (drop_of_length-le text h) refl) c.kept c.few
 
@@ -90,58 +83,41 @@ module _ {text old : List ℕ} {n : ℕ} {new : List ℕ} {end k : ℕ} (c : Lin
     one_more : read text ≡ id_lines n (k + 2) (take (load_width * k) new) (part text (end + 1) next ∷ lines (drop (next + 1) text))
     one_more = c.left ∙ rw (found_line text (end + 1) next h is) refl
 
-    -- the line after the last id line
-    one_too_many : k ≡ line_limit → ParseOf text old (Bad line_over_limit) new
+    -- a line too many, whatever it holds
+    one_too_many : k ≡ line_limit → ParseOf text old (Err (record { number = k + 2 })) new
     unfolding id_lines
-    one_too_many e = parse_bad n (take (load_width * k) new) line_over_limit (one_more ∙ rw e refl) c.kept
+    one_too_many e = parse_bad n (take (load_width * k) new) (k + 2) (one_more ∙ rw e refl) c.kept
 
     -- a line of another shape
-    pub line_bad : (k ≡ line_limit → ⊥) → id_line (part text (end + 1) next) ≡ none → ParseOf text old (Bad (k + 2)) new
+    pub line_bad : (k ≡ line_limit → ⊥) → id_line (part text (end + 1) next) ≡ none → ParseOf text old (Err (record { number = k + 2 })) new
     unfolding id_lines
     line_bad f e =
         let w = c.few in parse_bad n (take (load_width * k) new) (k + 2)
         (one_more ∙ rw (le-leb (k + 2) last_line (omega arith), e) refl) c.kept
 
     -- a line of three ids
-    pub line_good : (k ≡ line_limit → ⊥) → (s p o : ℕ) → id_line (part text (end + 1) next) ≡ some (s ∷ p ∷ o ∷ [])
-        → LinesRead text old n (set (set (set new (load_width * k) s) (load_width * k + 1) p) (load_width * k + 2) o) next (k + 1)
+    pub line_good : (k ≡ line_limit → ⊥) → (three : List ℕ) → length three ≡ load_width → id_line (part text (end + 1) next) ≡ some three
+        → LinesRead text old n (sets new (load_width * k) three) next (k + 1)
     unfolding id_lines
-    line_good f s p o e = rw three_stores (record {
+    line_good f three l e = record {
       few = let w = c.few in omega arith;
       upto = found_within 10 text (end + 1) next (omega arith) is;
-      room = rw (length-sets new (load_width * k) (s ∷ p ∷ o ∷ [])) c.room;
-      kept = rw front (sym (sets_append old 0 (take (load_width * k) new) (s ∷ p ∷ o ∷ []) ∙ rw (← c.kept, at_front) refl));
+      room = rw (length-sets new (load_width * k) three) c.room;
+      kept = rw front (sym (sets_append old 0 (take (load_width * k) new) three ∙ rw (← c.kept, at_front) refl));
       left = rw front (one_more ∙ rw (le-leb (k + 2) last_line (let w = c.few in omega arith), e) (rw number_next refl));
-    })
+    }
       where
-        three_stores : set (set (set new (load_width * k) s) (load_width * k + 1) p) (load_width * k + 2) o
-            ≡ sets new (load_width * k) (s ∷ p ∷ o ∷ [])
-        three_stores = rw (add-one, add-two) refl
-
         at_front : 0 + length (take (load_width * k) new) ≡ load_width * k
         at_front = let w = c.few in let r = c.room in let l = length-take-le (load_width * k) new (omega arith) in omega arith
 
-        front : take (load_width * (k + 1)) (sets new (load_width * k) (s ∷ p ∷ o ∷ [])) ≡ take (load_width * k) new ++ (s ∷ p ∷ o ∷ [])
+        front : take (load_width * (k + 1)) (sets new (load_width * k) three) ≡ take (load_width * k) new ++ three
         front =
-            let w = c.few in let r = c.room in let n3 : load_width * (k + 1)
-            ≡ load_width * k + 3 = omega arith in rw n3 (take_sets new (load_width * k) (s ∷ p ∷ o ∷ []) (omega arith))
+            let w = c.few in let r = c.room in let next_row : load_width * (k + 1)
+            ≡ load_width * k + length three = omega arith in rw next_row (take_sets new (load_width * k) three (omega arith))
 
         number_next : suc (k + 2) ≡ k + 1 + 2
         number_next = omega arith
 
-  -- a line too many, whatever it holds
-  pub line_too_many : end + 1 < length text → k ≡ line_limit → ParseOf text old (Bad line_over_limit) new
+  -- a line too many, wherever it ends
+  pub line_too_many : end + 1 < length text → k ≡ line_limit → ParseOf text old (Err (record { number = k + 2 })) new
   line_too_many h e = one_too_many h (end + 1 + length (before 10 (drop (end + 1) text))) refl e
-
--- FOR CALLERS: what an answer that was matched says of the input
-pub case_bad : {text old : List ℕ} {r : Answer} {k : ℕ} {new : List ℕ} → r ≡ Bad k → ParseOf text old r new → parse text ≡ bad_line k
-case_bad {new = new} e c = sym c.answer ∙ ap (λ x. parsed_of x new) e
-
--- the count and the ids
-pub case_input : {text old : List ℕ} {r : Answer} {n k : ℕ} {new : List ℕ} → r ≡ Input n k → ParseOf text old r new
-    → parse text ≡ input n (take (load_width * k) new)
-case_input {new = new} e c = sym c.answer ∙ ap (λ x. parsed_of x new) e
-
--- no more id lines than the limit
-pub case_few : {text old : List ℕ} {r : Answer} {n k : ℕ} {new : List ℕ} → r ≡ Input n k → ParseOf text old r new → k ≤ line_limit
-case_few e c = subst (λ x. lines_of x ≤ line_limit) e c.few

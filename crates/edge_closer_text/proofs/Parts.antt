@@ -1,59 +1,22 @@
--- Lines and fields by the places where they end, and the loop that looks for such a place. Assumes nothing.
+-- Lines and fields by the places where they end, and how such a place is found. Assumes nothing.
 use mathlib.Core.Path.{◌≡◌, refl, sym, ap, ◌∙◌}
 use mathlib.Core.Logic.{◌⊎◌, inl, inr}
 use mathlib.Core.Bool.{true, false}
 use mathlib.Core.List.{List, [], ◌∷◌}
 use Prim.Native.Nat.{ℕ, suc, ◌+◌, ◌-◌, ◌≤◌, ◌<◌}
-use native.Mathlib.Nat.{add-zero}
-use native.Mathlib.Numerals.{add-one}
+use native.Mathlib.Numerals.{one-add}
 use native.Mathlib.Omega.{arith}
 use lib.Dec.{ltb, eqb}
-use lib.ListN.{length, get_or, take, drop, length-drop, drop_of_length-le}
-use lib.Seq.{drop-cons, drop-drop}
-use borrow.Author.Tests.{ltb-true, ltb-false, eq-eqb, ne_eqb}
+use lib.ListN.{length, take, drop, length-drop}
+use lib.Seq.{drop-drop}
+use borrow.Author.Tests.{ltb-true, ltb-false}
+use Rattle.std.specs.Prelude.{◌==◌, Option, unwrap_or}
+use Rattle.std.specs.List.{position, position_or_len}
 use Rattle.edge_decimal.proofs.Digits.{either}
 use Rattle.edge_closer_text.specs.Input.{before, parts, lines, fields}
 use Rattle.edge_closer_text.specs.Promises.{part}
 
--- THE FIRST e of a text
-before_found : (e b : ℕ) (bs : List ℕ) → b ≡ e → before e (b ∷ bs) ≡ []
-unfolding before
-before_found e b bs h = rw (eq-eqb b e h) refl
-
--- another byte in front of it
-before_next : (e b : ℕ) (bs : List ℕ) → (b ≡ e → ⊥) → before e (b ∷ bs) ≡ b ∷ before e bs
-unfolding before
-before_next e b bs h = rw (ne_eqb b e h) refl
-
--- the loop that looks for it: what is left gives the same as the whole
-pub record Seeking (bs : List ℕ) (e at i : ℕ) : Type 0 where
-  pub upto : i ≤ length bs
-  pub is : at + length (before e (drop at bs)) ≡ i + length (before e (drop i bs))
-
--- where the search begins
-pub seeking_start : (bs : List ℕ) (e at : ℕ) → at ≤ length bs → Seeking bs e at at
-seeking_start bs e at h = record { upto = h; is = refl }
-
--- the byte is here
-pub seeking_found : {bs : List ℕ} {e at i : ℕ} → Seeking bs e at i → i < length bs → get_or bs i 0 ≡ e
-    → i ≡ at + length (before e (drop at bs))
-seeking_found {bs} {e} {at} {i} s h f = sym (s.is ∙ rw (drop-cons bs i 0 h, before_found e (get_or bs i 0) (drop (suc i) bs) f)
-    (add-zero i))
-
--- another byte is here
-pub seeking_step : {bs : List ℕ} {e at i : ℕ} → Seeking bs e at i → i < length bs → (get_or bs i 0 ≡ e → ⊥) → Seeking bs e at (i + 1)
-seeking_step {bs} {e} {at} {i} s h f = rw add-one (record {
-  upto = h;
-  is = s.is ∙ rw (drop-cons bs i 0 h, before_next e (get_or bs i 0) (drop (suc i) bs) f) (omega arith);
-})
-
--- there is none
-pub seeking_end : {bs : List ℕ} {e at i : ℕ} → Seeking bs e at i → length bs ≤ i → length bs ≡ at + length (before e (drop at bs))
-unfolding before
-seeking_end {bs} {e} {at} {i} s h =
-    let u = s.upto in let q : i + 0 ≡ length bs = omega arith in sym (s.is ∙ rw (drop_of_length-le bs h) q)
-
--- what stands before it is the front of the text
+-- THE FIRST e of a text: what stands before it is no longer than the text,
 pub before_short : (e : ℕ) (bs : List ℕ) → length (before e bs) ≤ length bs
 unfolding before
 before_short e [] = omega arith
@@ -73,6 +36,29 @@ before_take e (b ∷ bs) = go (before_take e bs) (either (eqb b e))
         → take (length (before e (b ∷ bs))) (b ∷ bs) ≡ before e (b ∷ bs)
     go ih (inl t) = rw t refl
     go ih (inr t) = rw t (ap (λ l. b ∷ l) ih)
+
+-- as many bytes stand before it as std's words say
+before_place : (e : ℕ) (bs : List ℕ) → length (before e bs) ≡ position_or_len (λ b. b == e) bs
+unfolding before
+before_place e [] = refl
+before_place e (b ∷ bs) = go (before_place e bs) (either (eqb b e))
+  where
+    go : length (before e bs) ≡ position_or_len (λ b. b == e) bs → (eqb b e ≡ true) ⊎ (eqb b e ≡ false)
+        → length (before e (b ∷ bs)) ≡ position_or_len (λ b. b == e) (b ∷ bs)
+    go ih (inl t) = rw t refl
+    go ih (inr t) = rw (t, one-add) (ap suc ih)
+
+-- so they end at the place that `position` gives, or with the text
+pub found_place : (e : ℕ) (bs : List ℕ) (r : Option ℕ) → r ≡ position (λ b. b == e) bs → unwrap_or r (length bs) ≡ length (before e bs)
+found_place e bs r p = rw p (go (either (ltb n (length bs))))
+  where
+    n : ℕ
+    n = position_or_len (λ b. b == e) bs
+
+    go : (ltb n (length bs) ≡ true) ⊎ (ltb n (length bs) ≡ false)
+        → unwrap_or (position (λ b. b == e) bs) (length bs) ≡ length (before e bs)
+    go (inl t) = rw t (sym (before_place e bs))
+    go (inr t) = let s = before_short e bs in let w = before_place e bs in let l = ltb-false n (length bs) t in rw t (omega arith)
 
 -- PARTS: the first and the others, where an e ends the first,
 pub parts_more : (e : ℕ) (rest : List (List ℕ)) (bs : List ℕ) → length (before e bs) < length bs

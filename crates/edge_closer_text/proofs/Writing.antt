@@ -2,60 +2,39 @@
 use mathlib.Core.Path.{◌≡◌, refl, sym, ◌∙◌}
 use mathlib.Core.List.{List, [], ◌∷◌, ◌++◌, append_assoc, append-nil}
 use Prim.Native.Nat.{ℕ, zero, suc, ◌+◌, ◌-◌, ◌*◌, ◌^◌, ◌≤◌, ◌<◌}
-use native.Mathlib.Nat.{add-suc, add-zero, mul-zero, mul-suc}
+use native.Mathlib.Nat.{mul-suc}
 use native.Mathlib.Numerals.{add-one}
 use native.Mathlib.Omega.{arith}
 use lib.ListN.{length, get_or, take, drop, set, length-append, length-take, length-drop, drop_of_length-le}
-use lib.Seq.{take-suc, drop-cons, drop-drop, take_all, get_or-drop}
+use lib.Seq.{sets, sets-eq, length-sets, length-take-le, drop-cons, drop-drop, get_or-drop}
+use borrow.Rule.Slice.PartMut.{put_mid}
 use Rattle.common.proofs.Widths.{rows_apart}
 use Rattle.edge_decimal.specs.Decimal.{digits}
 use Rattle.edge_decimal.specs.Promises.{Wrote}
-use Rattle.edge_decimal.proofs.Writing.{short_digits, wrote_byte, wrote_length, wrote_none, wrote_then}
+use Rattle.edge_decimal.proofs.Writing.{short_digits, wrote_byte, wrote_length, wrote_then}
 use Rattle.edge_closer_text.specs.Sizes.{number_width}
 use Rattle.edge_closer_text.specs.Output.{ending, line, table}
 use Rattle.edge_closer_text.specs.Promises.{part, TableFits}
 
--- BYTES, copied one after the other
-pub record Copied (bytes old : List ℕ) (at : ℕ) (new : List ℕ) (i : ℕ) : Type 0 where
-  pub upto : i ≤ length bytes
-  pub wrote : Wrote old at (take i bytes) new (at + i)
+-- BYTES, all at once: what `copy_from_slice` leaves
+pub put_sets : (l vs : List ℕ) (i k : ℕ) → k ≡ length vs → i + length vs ≤ length l → put_mid i k l vs ≡ sets l i vs
+put_sets l vs i k e h =
+    rw (e, drop-drop (length vs) i l) (sym (sets-eq vs l i h ∙ append_assoc (take i l) vs (drop (i + length vs) l)))
 
--- nothing was copied
-pub copied_start : (bytes old : List ℕ) (at : ℕ) → at + length bytes ≤ length old → Copied bytes old at old 0
-copied_start bytes old at h = record { upto = omega arith; wrote = rw (add-zero at) (wrote_none old at (omega arith)) }
+-- they were written
+pub wrote_bytes : (old : List ℕ) (at k : ℕ) (bytes : List ℕ) → k ≡ length bytes → at + length bytes ≤ length old
+    → Wrote old at bytes (put_mid at k old bytes) (at + length bytes)
+wrote_bytes old at k bytes e h = rw (put_sets old bytes at k e h) (record {
+  out = refl;
+  end = refl;
+  within = w;
+  front = sym (length-take-le (at + length bytes) (sets old at bytes) w);
+})
+  where
+    w : at + length bytes ≤ length (sets old at bytes)
+    w = omega (arith, length-sets old at bytes)
 
-module _ {bytes old : List ℕ} {at : ℕ} {new : List ℕ} {i : ℕ} (fits : at + length bytes ≤ length old) (c : Copied bytes old at new i) where
-  -- the buffer keeps its length
-  pub copied_length : length new ≡ length old
-  copied_length = wrote_length c.wrote
-
-  -- there is room for the next byte
-  pub copied_room : i < length bytes → at + i < length new
-  copied_room h = let e = copied_length in omega arith
-
-  -- one byte more
-  pub copied_step : i < length bytes → Copied bytes old at (set new (at + i) (get_or bytes i 0)) (i + 1)
-  copied_step h = record {
-    upto = omega arith;
-    wrote = rw (add-one i, take-suc bytes i 0 h, add-suc at i, ← add-one (at + i))
-        (wrote_then c.wrote (wrote_byte new (at + i) (get_or bytes i 0) (copied_room h)));
-  }
-
-  -- all of them
-  pub copied_end : length bytes ≤ i → Wrote old at bytes new (at + i)
-  copied_end h = rw take_all at c.wrote
-
--- A LINE, a number after the others
-pub ending_none : (others : ℕ) → others ≡ 0 → 10 ≡ ending others
-ending_none zero e = refl
-ending_none (suc n) e = absurd (omega arith)
-
--- the byte where others follow
-pub ending_some : (others : ℕ) → (others ≡ 0 → ⊥) → 32 ≡ ending others
-ending_some zero f = absurd (f refl)
-ending_some (suc n) f = refl
-
--- the numbers of a lent slice
+-- A LINE, a number after the others: the numbers of a lent slice
 abbrev pub Words : List ℕ → Type 0
 Words ns = (k : ℕ) → get_or ns k 0 < 2 ^ 32
 
@@ -66,16 +45,6 @@ pub record Lined (ns old : List ℕ) (at : ℕ) (new : List ℕ) (to i : ℕ) : 
   pub left : text ++ line (drop i ns) ≡ line ns
   pub upto : i ≤ length ns
   pub room : to ≤ at + number_width * i
-
--- nothing was written
-pub lined_start : (ns old : List ℕ) (at : ℕ) → at + number_width * length ns ≤ length old → Lined ns old at old at 0
-lined_start ns old at h = record {
-  text = [];
-  wrote = wrote_none old at (omega arith);
-  left = refl;
-  upto = omega arith;
-  room = omega arith;
-}
 
 module _ {ns old : List ℕ} {at : ℕ} {new : List ℕ} {to i : ℕ} (fits : at + number_width * length ns ≤ length old)
     (c : Lined ns old at new to i) where
@@ -136,32 +105,15 @@ line_short (n ∷ ns) f =
     simp length-append (omega arith)
 
 -- the loop: what is left gives the same as the whole, and no number takes more bytes than its width
-pub record Tabled (ns : List ℕ) (w c rows : ℕ) (old : List ℕ) (at : ℕ) (new : List ℕ) (to start i : ℕ) : Type 0 where
+pub record Tabled (ns : List ℕ) (w c rows : ℕ) (old : List ℕ) (at : ℕ) (new : List ℕ) (to i : ℕ) : Type 0 where
   pub text : List ℕ
   pub wrote : Wrote old at text new to
-  pub left : text ++ table w c (rows - i) (drop start ns) ≡ table w c rows ns
-  pub place : start ≡ w * i
+  pub left : text ++ table w c (rows - i) (drop (w * i) ns) ≡ table w c rows ns
   pub upto : i ≤ rows
   pub room : to ≤ at + number_width * (c * i)
 
--- nothing was written
-pub tabled_start : {ns : List ℕ} {w c rows : ℕ} {old : List ℕ} {at : ℕ} → TableFits ns w c rows old at
-    → Tabled ns w c rows old at old at 0 0
-tabled_start {ns} {w} {c} {rows} {old} {at} f = record {
-  text = [];
-  wrote = wrote_none old at (let r = f.room in omega arith);
-  left = let z : rows - 0 ≡ rows = omega arith in rw z refl;
-  place = sym (mul-zero w);
-  upto = omega arith;
-  room = omega (arith, mul-zero c);
-}
-
-module _ {ns : List ℕ} {w c rows : ℕ} {old : List ℕ} {at : ℕ} {new : List ℕ} {to start i : ℕ} (f : TableFits ns w c rows old at)
-    (t : Tabled ns w c rows old at new to start i) where
-  -- the buffer keeps its length
-  pub tabled_length : length new ≡ length old
-  tabled_length = wrote_length t.wrote
-
+module _ {ns : List ℕ} {w c rows : ℕ} {old : List ℕ} {at : ℕ} {new : List ℕ} {to i : ℕ} (f : TableFits ns w c rows old at)
+    (t : Tabled ns w c rows old at new to i) where
   -- the whole table
   pub tabled_end : rows ≤ i → Wrote old at (table w c rows ns) new to
   unfolding table
@@ -171,43 +123,30 @@ module _ {ns : List ℕ} {w c rows : ℕ} {old : List ℕ} {at : ℕ} {new : Lis
       rw (← e) t.wrote
 
   module _ (h : i < rows) where
-    -- the next row
-    pub tabled_row : start + w ≤ length ns
-    tabled_row = let a = rows_apart w i rows h in let p = t.place in let g = f.held in omega arith
-
-    -- its part that is printed
-    pub tabled_part : start + c ≤ length ns
-    tabled_part = let a = tabled_row in let g = f.within in omega arith
+    -- the next row's part that is printed
+    pub tabled_part : w * i + c ≤ length ns
+    tabled_part = let a = rows_apart w i rows h in let g = f.held in let v = f.within in omega arith
 
     -- that has c numbers
-    part_length : length (part ns start (start + c)) ≡ c
-    part_length = let g = tabled_part in let d = length-drop start ns in simp length-take (omega arith)
-
-    -- there is room for its line
-    pub tabled_fits : to + number_width * length (part ns start (start + c)) ≤ length new
-    tabled_fits =
-        let a = rows_apart c i rows h in
-        let r = t.room in
-        let g = f.room in
-        let l = tabled_length in
-        let n = part_length in
-        omega arith
+    part_length : length (part ns (w * i) (w * i + c)) ≡ c
+    part_length = let g = tabled_part in let d = length-drop (w * i) ns in simp length-take (omega arith)
 
     -- one row more
-    pub tabled_step : {after : List ℕ} {next : ℕ} → Words ns → Wrote new to (line (part ns start (start + c))) after next
-        → Tabled ns w c rows old at after next (start + w) (i + 1)
+    pub tabled_step : {after : List ℕ} {next : ℕ} → Words ns → Wrote new to (line (part ns (w * i) (w * i + c))) after next
+        → Tabled ns w c rows old at after next (i + 1)
     unfolding table
     tabled_step q v = record {
-      text = t.text ++ line (part ns start (start + c));
+      text = t.text ++ line (part ns (w * i) (w * i + c));
       wrote = wrote_then t.wrote v;
       left =
           let k : rows - i ≡ suc (rows - (i + 1)) = omega arith in
-          let g : start + c - start ≡ c = omega arith in
-          rw (append_assoc, g, ← drop-drop w start ns) (rw k at t.left);
-      place = let p = t.place in rw (add-one i, mul-suc w i) (omega arith);
+          let g : w * i + c - w * i ≡ c = omega arith in
+          let m : w * (i + 1) ≡ w * i + w = rw (add-one i, mul-suc w i) (omega arith) in
+          rw (append_assoc, g, m, ← drop-drop w (w * i) ns) (rw k at t.left);
       upto = omega arith;
       room =
-          let s = line_short (part ns start (start + c)) (words_take (start + c - start) (drop start ns) (words_drop start ns q)) in
+          let s = line_short (part ns (w * i) (w * i + c))
+          (words_take (w * i + c - w * i) (drop (w * i) ns) (words_drop (w * i) ns q)) in
           let n = part_length in
           let e = v.end in
           let r = t.room in

@@ -36,19 +36,16 @@ pub fn put_bytes(bytes: &[u8], out: &mut [u8], at: usize) -> usize
     requires { at + length bytes.now ≤ length out.old }
     ensures { Wrote out.old at bytes.now out.new result }
 {
-    let mut i = 0;
-    while i < bytes.len() {
-        out[at + i] = bytes[i];
-        i += 1;
-    }
-    at + i
+    let end = at + bytes.len();
+    out[at..end].copy_from_slice(bytes);
+    end
 }
 
 // The byte after a number of a line that so many others follow.
 pub fn ending(others: usize) -> u8
     ensures { result ≡ Output·ending others }
 {
-    if others == 0 { 10 } else { 32 }
+    if others == 0 { b'\n' } else { b' ' }
 }
 
 // Writes a line of the numbers.
@@ -57,11 +54,9 @@ pub fn put_line(numbers: &[u32], out: &mut [u8], at: usize) -> usize
     ensures { Wrote out.old at (line numbers.now) out.new result }
 {
     let mut to = at;
-    let mut i = 0;
-    while i < numbers.len() {
-        let end = put_number(numbers[i], &mut *out, to);
-        i += 1;
-        out[end] = ending(numbers.len() - i);
+    for (i, n) in numbers.iter().enumerate() {
+        let end = put_number(*n, &mut *out, to);
+        out[end] = ending(numbers.len() - (i + 1));
         to = end + 1;
     }
     to
@@ -80,13 +75,10 @@ pub fn put_table(
     ensures { Wrote out.old at (table width printed rows numbers.now) out.new result }
 {
     let mut to = at;
-    let mut start = 0;
-    let mut i = 0;
-    while i < rows {
+    for i in 0..rows {
+        let start = width * i;
         let end = start + printed;
         to = put_line(&numbers[start..end], &mut *out, to);
-        start += width;
-        i += 1;
     }
     to
 }
@@ -139,7 +131,7 @@ pub fn print_bad_line(number: u32, out: &mut [u8]) -> usize
 {
     let start = put_bytes(b"bad line ", &mut *out, 0);
     let end = put_number(number, &mut *out, start);
-    out[end] = 10;
+    out[end] = b'\n';
     end + 1
 }
 

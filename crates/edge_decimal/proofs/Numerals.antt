@@ -119,22 +119,15 @@ leads (b ∷ []) e h = absurd (omega arith)
 leads (b ∷ c ∷ bs) e h = rw (eq-eqb b 48 e) refl
 
 -- and where none does
-pub leads_not : (bs : List ℕ) → (get_or bs 0 0 ≡ 48 → ⊥) → 0 < length bs → no_leading_zero bs ≡ true
+pub leads_not : (bs : List ℕ) → (1 < length bs → get_or bs 0 0 ≡ 48 → ⊥) → 0 < length bs → no_leading_zero bs ≡ true
 leads_not [] f h = absurd (omega arith)
 leads_not (b ∷ []) f h = refl
-leads_not (b ∷ c ∷ bs) f h = rw (ne_eqb b 48 f) refl
+leads_not (b ∷ c ∷ bs) f h = rw (ne_eqb b 48 (f (omega arith))) refl
 
--- no byte is no number, and one zero is the number 0
+-- no byte is no number
 pub number_empty : (most : ℕ) (bs : List ℕ) → length bs ≡ 0 → number most bs ≡ none
 number_empty most [] h = zero_led most [] refl
 number_empty most (b ∷ bs) h = absurd (omega arith)
-
--- one zero alone
-pub number_zero : (most : ℕ) (bs : List ℕ) → get_or bs 0 0 ≡ 48 → length bs ≤ 1 → number most bs ≡ some 0
-unfolding all_digits value
-number_zero most [] e h = absurd (omega arith)
-number_zero most (b ∷ []) e h = rw e (number_some most (48 ∷ []) refl refl (omega arith))
-number_zero most (b ∷ c ∷ bs) e h = absurd (omega arith)
 
 -- the digits of a number that is not 0 begin with another digit than 0,
 first_digit : (n : ℕ) → 0 < n → get_or (digits n) 0 0 ≡ 48 → ⊥
@@ -147,7 +140,7 @@ digits_led n = go (either (ltb n 10))
   where
     go : (ltb n 10 ≡ true) ⊎ (ltb n 10 ≡ false) → no_leading_zero (digits n) ≡ true
     go (inl e) = rw (digits_one n (ltb-true n 10 e)) refl
-    go (inr e) = let h = ltb-false n 10 e in leads_not (digits n) (first_digit n (omega arith)) (some_digits n)
+    go (inr e) = let h = ltb-false n 10 e in leads_not (digits n) (λ l. first_digit n (omega arith)) (some_digits n)
 
 -- THE TWO DEFINITIONS AGREE: the digits of a number are read as that number,
 pub number_digits : (most n : ℕ) → n ≤ most → number most (digits n) ≡ some n

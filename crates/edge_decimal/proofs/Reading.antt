@@ -1,7 +1,8 @@
--- The loop that reads a number, and what its answer says. Assumes nothing.
-use mathlib.Core.Path.{◌≡◌, refl, sym, ap, ◌∙◌}
+-- The loop that reads a number. Assumes nothing.
+use mathlib.Core.Path.{◌≡◌, refl, ap, ◌∙◌}
+use mathlib.Core.Logic.{◌⊎◌, inl, inr}
 use mathlib.Core.Bool.{true, false}
-use mathlib.Core.Option.{Option, some, none}
+use mathlib.Core.Option.{some, none}
 use mathlib.Core.List.{List, []}
 use Prim.Native.Nat.{ℕ, suc, ◌+◌, ◌-◌, ◌*◌, ◌≤◌, ◌<◌}
 use native.Mathlib.Numerals.{add-one}
@@ -12,9 +13,6 @@ use borrow.Author.Tests.{le-leb, lt-leb}
 use Rattle.common.specs.Triples.{if}
 use Rattle.common.specs.Digits.{is_digit, all_digits, value}
 use Rattle.edge_decimal.specs.Decimal.{no_leading_zero, number}
-use Rattle.edge_decimal.specs.Promises.{number_of}
-use Rattle.edge_decimal.specs.declared.Field.{Field}
-use Rattle.edge_decimal.specs.declared.Field.TheVariants.{Number, Bad as NoNumber}
 use Rattle.edge_decimal.proofs.Numerals.{value_grows, number_some, no_digit, too_large}
 
 -- THE LOOP that reads a number: what is left gives the same as the whole
@@ -23,10 +21,6 @@ pub record Counted (bs : List ℕ) (most i v : ℕ) : Type 0 where
   pub all : all_digits bs ≡ all_digits (drop i bs)
   pub is : value 0 bs ≡ value v (drop i bs)
   pub small : v ≤ most
-
--- no digit was read
-pub counted_start : (bs : List ℕ) (most : ℕ) → Counted bs most 0 0
-counted_start bs most = record { upto = omega arith; all = refl; is = refl; small = omega arith }
 
 module _ {bs : List ℕ} {most i v : ℕ} (c : Counted bs most i v) (h : i < length bs) where
   -- the digit at i, and what is left after it
@@ -40,12 +34,9 @@ module _ {bs : List ℕ} {most i v : ℕ} (c : Counted bs most i v) (h : i < len
   next_value = c.is ∙ rw (drop-cons bs i 0 h) refl
 
   -- a byte that is no digit
-  pub counted_low : get_or bs i 0 < 48 → number most bs ≡ none
-  counted_low l = no_digit most bs (next_all ∙ rw (lt-leb 48 (get_or bs i 0) l) refl)
-
-  -- nor a byte above the digits
-  pub counted_high : 48 ≤ get_or bs i 0 → 57 < get_or bs i 0 → number most bs ≡ none
-  counted_high l r = no_digit most bs (next_all ∙ rw (le-leb 48 (get_or bs i 0) l, lt-leb (get_or bs i 0) 57 r) refl)
+  pub counted_bad : (get_or bs i 0 < 48) ⊎ (57 < get_or bs i 0) → number most bs ≡ none
+  counted_bad (inl l) = no_digit most bs (next_all ∙ rw (lt-leb 48 (get_or bs i 0) l) refl)
+  counted_bad (inr r) = no_digit most bs (next_all ∙ rw (le-leb 48 (get_or bs i 0) (omega arith), lt-leb (get_or bs i 0) 57 r) refl)
 
   -- a value over the limit only grows
   pub counted_over : most < 10 * v + (get_or bs i 0 - 48) → number most bs ≡ none
@@ -69,11 +60,3 @@ counted_end {bs} {most} {i} {v} c h z =
     let d : drop i bs ≡ [] = drop_of_length-le bs h in
     let w : value 0 bs ≡ v = c.is ∙ rw d refl in
     number_some most bs z (c.all ∙ rw d refl) (let s = c.small in omega arith) ∙ ap some w
-
--- FOR CALLERS: what an answer that was matched says. A number,
-pub case_number : {r : Field} {n : ℕ} {o : Option ℕ} → r ≡ Number n → number_of r ≡ o → o ≡ some n
-case_number e s = sym s ∙ ap number_of e
-
--- and no number
-pub case_none : {r : Field} {o : Option ℕ} → r ≡ NoNumber → number_of r ≡ o → o ≡ none
-case_none e s = sym s ∙ ap number_of e

@@ -26,10 +26,6 @@ take_sets l i vs h =
 pub wrote_length : {old : List ℕ} {at : ℕ} {bytes new : List ℕ} {next : ℕ} → Wrote old at bytes new next → length new ≡ length old
 wrote_length {old} {at} {bytes} w = ap length w.out ∙ length-sets old at bytes
 
--- nothing, and one byte
-pub wrote_none : (old : List ℕ) (at : ℕ) → at ≤ length old → Wrote old at [] old at
-wrote_none old at h = record { out = refl; end = sym (add-zero at); within = h; front = sym (length-take-le at old h) }
-
 -- one byte
 pub wrote_byte : (old : List ℕ) (at b : ℕ) → at < length old → Wrote old at (b ∷ []) (set old at b) (at + 1)
 wrote_byte old at b h =

@@ -5,43 +5,24 @@ ghost use Rattle.std.specs.Prelude.{◌≡◌, ◌+◌, ◌≤◌, length};
 ghost use Rattle.edge_decimal.specs.Decimal.{number as decimal·number, digits};
 ghost use Rattle.edge_decimal.specs.Promises.{number_of, Wrote};
 
-// The number of a field, if it is one.
-#[derive(Clone, Copy)]
-pub enum Field {
-    Number(u32),
-    Bad,
-}
-
 // The number that the bytes write, if it is at most `most`.
-pub fn number(bytes: &[u8], most: u32) -> Field
+pub fn number(bytes: &[u8], most: u32) -> Option<u32>
     ensures { number_of result ≡ decimal·number most bytes.now }
 {
-    if bytes.len() == 0 {
-        return Field::Bad;
-    }
-    if bytes[0] == 48 {
-        if 1 < bytes.len() {
-            return Field::Bad;
-        }
-        return Field::Number(0);
+    if bytes.is_empty() || 1 < bytes.len() && bytes[0] == b'0' {
+        return None;
     }
     let mut value: u64 = 0;
-    let mut i = 0;
-    while i < bytes.len() {
-        let b = bytes[i];
-        if b < 48 {
-            return Field::Bad;
+    for b in bytes {
+        if !b.is_ascii_digit() {
+            return None;
         }
-        if 57 < b {
-            return Field::Bad;
+        value = 10 * value + u64::from(*b - b'0');
+        if u64::from(most) < value {
+            return None;
         }
-        value = 10 * value + (b - 48) as u64;
-        if (most as u64) < value {
-            return Field::Bad;
-        }
-        i += 1;
     }
-    Field::Number(value as u32)
+    Some(value as u32)
 }
 
 // Writes the digits of n from place `at` on, and answers the place after them.
@@ -50,10 +31,10 @@ pub fn put_number(n: u32, out: &mut [u8], at: usize) -> usize
     ensures { Wrote out.old at (digits n) out.new result }
 {
     if n < 10 {
-        out[at] = 48 + n as u8;
+        out[at] = b'0' + n as u8;
         return at + 1;
     }
     let last = put_number(n / 10, &mut *out, at);
-    out[last] = 48 + (n % 10) as u8;
+    out[last] = b'0' + (n % 10) as u8;
     last + 1
 }

@@ -12,7 +12,7 @@ use lib.Seq.{drop-cons, take-suc-set, append_snoc, take_all}
 use Rattle.common.specs.Sizes.{finding_width}
 use Rattle.common.specs.Triples.{if}
 use Rattle.edge_records.specs.declared.FindingRecord.{FindingRecord}
-use Rattle.edge_records.specs.declared.Plan.{Plan}
+use Rattle.std.specs.Prelude.{Option, Some, None}
 use Rattle.edge_records.specs.Records.{five, records_of, RecordsResult, records_result, records_give, five_at, plan_for, filled}
 
 pub filled_more : (l : List ℕ) (k : ℕ) (ys : List FindingRecord) (r : FindingRecord) → r ≡ five_at l k
@@ -28,21 +28,6 @@ pub length_filled : (l : List ℕ) (k : ℕ) (ys : List FindingRecord) → lengt
 unfolding filled
 length_filled l zero ys = refl
 length_filled l (suc k) ys = length-set (filled l k ys) k (five_at l k) ∙ length_filled l k ys
-
--- a plan by its two tests
-by_cond : {A : Type 0} (P : A → Type 0) (t : Bool) (x y : A) → (t ≡ true → P x) → (t ≡ false → P y) → P (cond t x y)
-by_cond P true x y f g = f refl
-by_cond P false x y f g = g refl
-
--- a plan's records are within the slice, and each has its five numbers
-abbrev pub Planned : ℕ → ℕ → Plan → Type 0
-Planned m n p = (p.count ≤ n) × (finding_width * p.count ≤ m)
-
-pub planned : (m n : ℕ) → Planned m n (plan_for m n)
-planned m n =
-    by_cond (Planned m n) (eqb (m / finding_width) n) _ _
-    (λ e. by_cond (Planned m n) (eqb (m % finding_width) 0) _ _ (λ f. omega (arith, eqb-true (m / finding_width) n e))
-    (λ f. omega arith)) (λ e. omega arith)
 
 -- the numbers from a place on
 records_step : (l : List ℕ) (m : ℕ) → m + 4 < length l
@@ -96,29 +81,25 @@ filled_all l ys h =
     ∙ (sym (append-nil (take n x)) ∙ (ap (λ (z : List ℕ). take n x ++ records_of z) (sym none) ∙ filled_front l ys n
     (omega arith) (omega arith)))
 
+-- what the code leaves, by the plan
+abbrev pub left : List ℕ → List FindingRecord → Option ℕ → RecordsResult
+left l ys None = records_result 4 ys
+left l ys (Some n) = records_result 0 (filled l n ys)
+
 -- what the code leaves is what the call gives
-pub gives : (l : List ℕ) (ys : List FindingRecord) (p : Plan) → p ≡ plan_for (length l) (length ys)
-    → records_result p.number (filled l p.count ys) ≡ records_give l ys
+pub gives : (l : List ℕ) (ys : List FindingRecord) (p : Option ℕ) → p ≡ plan_for (length l) (length ys) → left l ys p ≡ records_give l ys
 unfolding records_give
 gives l ys p e =
-    ap (λ (x : Plan). records_result x.number (filled l x.count ys)) e
-    ∙ go (eqb (length l / finding_width) (length ys)) (eqb (length l % finding_width) 0) refl refl
+    ap (left l ys) e ∙ go (eqb (length l / finding_width) (length ys)) (eqb (length l % finding_width) 0) refl refl
   where
     chosen : Bool → RecordsResult
     chosen b = if b (λ _. records_result 0 (records_of l)) (λ _. records_result 4 ys)
 
-    refused : (length l ≡ finding_width * length ys → ⊥)
-        → records_result 4 (filled l 0 ys) ≡ chosen (eqb (length l) (finding_width * length ys))
-    refused h =
-        ap (λ (x : List FindingRecord). records_result 4 x) (sym (filled_none l ys))
-        ∙ ap chosen (sym (ne_eqb (length l) (finding_width * length ys) h))
-
-    left : Plan → RecordsResult
-    left x = records_result x.number (filled l x.count ys)
+    refused : (length l ≡ finding_width * length ys → ⊥) → records_result 4 ys ≡ chosen (eqb (length l) (finding_width * length ys))
+    refused h = ap chosen (sym (ne_eqb (length l) (finding_width * length ys) h))
 
     go : (s t : Bool) → eqb (length l / finding_width) (length ys) ≡ s → eqb (length l % finding_width) 0 ≡ t
-        → left (cond s (cond t (record { number = 0; count = length ys }) (record { number = 4; count = 0 }))
-        (record { number = 4; count = 0 })) ≡ chosen (eqb (length l) (finding_width * length ys))
+        → left l ys (cond s (cond t (Some (length ys)) None) None) ≡ chosen (eqb (length l) (finding_width * length ys))
     go true true i j =
         let h : length l ≡ finding_width * length ys = omega
         (arith, eqb-true (length l / finding_width) (length ys) i, eqb-true (length l % finding_width) 0 j) in

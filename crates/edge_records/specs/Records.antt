@@ -1,10 +1,9 @@
 -- Findings as records: a lent slice of them is filled from the five-number form, or refused with 4 and not changed where there is not
 -- one record for each five numbers. REFERENCE 7.3. Assumes nothing.
-use Rattle.std.specs.Prelude.{cond, List, [], ◌∷◌, ℕ, zero, suc, ◌+◌, ◌*◌, ◌/◌, ◌%◌, eqb, length, get_or, set}
+use Rattle.std.specs.Prelude.{cond, Option, Some, None, List, [], ◌∷◌, ℕ, zero, suc, ◌+◌, ◌*◌, ◌/◌, ◌%◌, eqb, length, get_or, set}
 use Rattle.common.specs.Sizes.{finding_width}
 use Rattle.common.specs.Triples.{if}
 use Rattle.edge_records.specs.declared.FindingRecord.{FindingRecord}
-use Rattle.edge_records.specs.declared.Plan.{Plan}
 
 -- the record of five numbers
 abbrev pub five : ℕ → ℕ → ℕ → ℕ → ℕ → FindingRecord
@@ -37,11 +36,8 @@ five_at l i =
     let at = finding_width * i in five (get_or l at 0) (get_or l (at + 1) 0) (get_or l (at + 2) 0) (get_or l (at + 3) 0)
     (get_or l (at + 4) 0)
 
-abbrev pub plan_for : ℕ → ℕ → Plan
-plan_for m n =
-    cond (eqb (m / finding_width) n) (cond (eqb (m % finding_width) 0) (record { number = 0; count = n })
-    (record { number = 4; count = 0 }))
-    (record { number = 4; count = 0 })
+abbrev pub plan_for : ℕ → ℕ → Option ℕ
+plan_for m n = cond (eqb (m / finding_width) n) (cond (eqb (m % finding_width) 0) (Some n) None) None
 
 unfoldable pub filled : List ℕ → ℕ → List FindingRecord → List FindingRecord
 filled l zero ys = ys

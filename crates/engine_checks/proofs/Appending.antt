@@ -1,7 +1,7 @@
 -- Laws of records appended to the findings buffer. Assumes nothing.
 use mathlib.Core.Path.{◌≡◌, refl, sym, ap, ap₂, ◌∙◌}
 use mathlib.Core.Logic.{◌⊎◌, ⊎_elim}
-use mathlib.Core.Bool.{true, false}
+use mathlib.Core.Bool.{Bool, false}
 use mathlib.Core.List.{List, [], ◌∷◌, ◌++◌, append_assoc, append-nil}
 use Prim.Native.Nat.{ℕ, ◌+◌, ◌*◌, ◌≤◌, ◌<◌}
 use native.Mathlib.Omega.{arith}
@@ -90,9 +90,9 @@ count_few {f} {a} r i =
 
 -- THE RECORD IS APPENDED
 pub appended_one : {f : List ℕ} {a b : Checked} (x : Finding) → Ready f a → 1 ≤ x.check → x.check ≤ 5
-    → 5 * a.n + 5 ≤ length f → b.n ≡ a.n + 1 → b.full ≡ false → b.counts ≡ raised a.counts x.check → {f' : List ℕ}
-    → f' ≡ set_finding f a.n x → Appended (λ y. y ≡ x) f a f' b
-appended_one {f} {a} {b} x r p q h en ef ec {f'} e = record {
+    → 5 * a.n + 5 ≤ length f → b.n ≡ a.n + 1 → b.counts ≡ raised a.counts x.check → {f' : List ℕ}
+    → f' ≡ set_finding f a.n x → Appended (λ y. y ≡ x) f a f' b false
+appended_one {f} {a} {b} x r p q h en ec {f'} e = record {
   same_length = long;
   ready = record {
     room = omega (arith, long);
@@ -104,7 +104,7 @@ appended_one {f} {a} {b} x r p q h en ef ec {f'} e = record {
   distinct = (λ i. in_nil i, tt);
   sound = λ y i. ⊎_elim (λ z. z) (λ j. absurd (in_nil j)) (in_cons i);
   all = λ _ y z. here z;
-  over = λ z. true_false (sym z ∙ ef);
+  over = λ z. true_false (sym z);
 }
   where
     long : length f' ≡ length f
@@ -113,29 +113,10 @@ appended_one {f} {a} {b} x r p q h en ef ec {f'} e = record {
     rows : finding_rows b.n f' ≡ finding_rows a.n f ++ (x ∷ [])
     rows = ap₂ finding_rows en e ∙ records_put f a.n x h
 
--- or does not fit
-pub appended_full : {f : List ℕ} {a b : Checked} (x : Finding) → Ready f a → length f < 5 * a.n + 5 → b.n ≡ a.n
-    → b.full ≡ true → b.counts ≡ a.counts → Appended (λ y. y ≡ x) f a f b
-appended_full {f} {a} {b} x r h en ef ec = record {
-  same_length = refl;
-  ready = record {
-    room = omega (arith, r.room);
-    few = r.few;
-    counts = ec ∙ r.counts
-        ∙ ap (λ k. five_counts (finding_rows k f)) (sym en);
-  };
-  new = [];
-  records = ap (λ k. finding_rows k f) en ∙ sym (append-nil (finding_rows a.n f));
-  distinct = tt;
-  sound = λ y i. absurd (in_nil i);
-  all = λ z. true_false (sym ef ∙ z);
-  over = λ _. record { short = omega arith; what = x; wanted = refl; absent = λ i. in_nil i };
-}
-
 -- nothing to append
-pub appended_nothing : {C : Finding → Type 0} {f : List ℕ} {a : Checked} → Ready f a → a.full ≡ false
-    → ((x : Finding) → C x → ⊥) → Appended C f a f a
-appended_nothing {f = f} {a = a} r ef c = record {
+pub appended_nothing : {C : Finding → Type 0} {f : List ℕ} {a : Checked} → Ready f a
+    → ((x : Finding) → C x → ⊥) → Appended C f a f a false
+appended_nothing {f = f} {a = a} r c = record {
   same_length = refl;
   ready = r;
   new = [];
@@ -143,12 +124,12 @@ appended_nothing {f = f} {a = a} r ef c = record {
   distinct = tt;
   sound = λ y i. absurd (in_nil i);
   all = λ _ y z. absurd (c y z);
-  over = λ z. true_false (sym z ∙ ef);
+  over = λ z. true_false (sym z);
 }
 
 -- the same records, under another description
-pub appended_iff : {C D : Finding → Type 0} {f f' : List ℕ} {a b : Checked} → ((x : Finding) → C x → D x)
-    → ((x : Finding) → D x → C x) → Appended C f a f' b → Appended D f a f' b
+pub appended_iff : {C D : Finding → Type 0} {f f' : List ℕ} {a b : Checked} {w : Bool} → ((x : Finding) → C x → D x)
+    → ((x : Finding) → D x → C x) → Appended C f a f' b w → Appended D f a f' b w
 appended_iff u v p = record {
   same_length = p.same_length;
   ready = p.ready;
@@ -167,10 +148,10 @@ distinct_append (x ∷ xs) ys d e f =
     (λ i. ⊎_elim d.0 (f x (here refl)) (in_cases xs i), distinct_append xs ys d.1 e (λ y i j. f y (there i) j))
 
 -- some records, and then others; where one did not fit, it is one of more that were wanted
-module _ {C D E : Finding → Type 0} {f f' f'' : List ℕ} {a b c : Checked} (p : Appended C f a f' b) (e : b.full ≡ false)
-    (q : Appended D f' b f'' c) (apart : (x : Finding) → C x → D x → ⊥) (left : (x : Finding) → C x → E x)
+module _ {C D E : Finding → Type 0} {f f' f'' : List ℕ} {a b c : Checked} {w : Bool} (p : Appended C f a f' b false)
+    (q : Appended D f' b f'' c w) (apart : (x : Finding) → C x → D x → ⊥) (left : (x : Finding) → C x → E x)
     (right : (x : Finding) → D x → E x) where
-  pub appended_then : (c.full ≡ false → (x : Finding) → E x → C x ⊎ D x) → Appended E f a f'' c
+  pub appended_then : (w ≡ false → (x : Finding) → E x → C x ⊎ D x) → Appended E f a f'' c w
   appended_then all = record {
     same_length = q.same_length ∙ p.same_length;
     ready = q.ready;
@@ -178,7 +159,7 @@ module _ {C D E : Finding → Type 0} {f f' f'' : List ℕ} {a b c : Checked} (p
     records = q.records ∙ ap (λ r. r ++ q.new) p.records ∙ append_assoc (finding_rows a.n f) p.new q.new;
     distinct = distinct_append p.new q.new p.distinct q.distinct (λ x i j. apart x (p.sound x i) (q.sound x j));
     sound = λ x i. ⊎_elim (λ j. left x (p.sound x j)) (λ j. right x (q.sound x j)) (in_cases p.new i);
-    all = λ z x i. ⊎_elim (λ j. in_left q.new (p.all e x j)) (λ j. in_right p.new (q.all z x j)) (all z x i);
+    all = λ z x i. ⊎_elim (λ j. in_left q.new (p.all refl x j)) (λ j. in_right p.new (q.all z x j)) (all z x i);
     over = λ z. let o = q.over z in record {
       short = o.short;
       what = o.what;

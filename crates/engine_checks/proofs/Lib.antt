@@ -1,4 +1,3 @@
-pub mod Reflecting
 pub mod Pairing
 pub mod Counting
 pub mod Appending

@@ -1,65 +1,59 @@
 -- The pairs of rows and the findings in words: a finding comes from one pair, and the pairs of a store give exactly its findings.
 -- Assumes nothing.
 use mathlib.Core.Path.{◌≡◌, refl, sym, ap, subst, ◌∙◌}
-use mathlib.Core.Bool.{true}
+use Rattle.std.specs.Prelude.{Some, None}
+use Rattle.std.proofs.Common.{ne_eqb}
 use mathlib.Core.List.{List}
-use Prim.Native.Nat.{ℕ, ◌*◌, ◌≤◌, ◌<◌}
-use native.Mathlib.Omega.{arith}
+use Prim.Native.Nat.{ℕ, ◌<◌}
 use lib.Dec.{eqb}
 use Rattle.common.specs.Triples.{Triple, triple, Finding, finding, In, if}
 use Rattle.common.specs.Vocabulary.{type, Nothing, IrreflexiveProperty, AsymmetricProperty, disjointWith, propertyDisjointWith}
 use Rattle.meaning.specs.Rules.{Graph, Found, cax_dw, prp_irp, prp_asyp, prp_pdw, cls_nothing2}
 use Rattle.meaning.specs.Table.{graph_of}
 use Rattle.store_rows.specs.Rows.{row_at, rows, InRows, row_graph}
-use Rattle.store_rows.specs.Chains.{block, Chain}
+use Rattle.store_rows.specs.Chains.{Chain}
 use Rattle.store_rows.specs.Store.{Indexed}
-use Rattle.store_rows.proofs.Cases.{true_false}
 use Rattle.store_rows.proofs.Rows.{triple_eq, in_rows→, in_rows←}
 use Rattle.engine_checks.specs.declared.CheckKind.{CheckKind}
-use Rattle.engine_checks.specs.declared.CheckKind.TheVariants.{NoCheck, CaxDw, PrpIrp, PrpAsyp, PrpPdw, ClsNothing2}
-use Rattle.engine_checks.specs.Pairs.{Axiom, check_of, is_check, Violates, finding_by, assertions_block, key_by, Gives, GivesWith}
+use Rattle.engine_checks.specs.declared.CheckKind.TheVariants.{CaxDw, PrpIrp, PrpAsyp, PrpPdw, ClsNothing2}
+use Rattle.engine_checks.specs.Pairs.{Axiom, check_of, KindOf, Violates, finding_by, assertions_block, key_by, Gives, GivesWith}
 use Rattle.engine_checks.specs.Pairs.{GivenByRow, GivenByRows}
 
 -- an axiom is one of its check alone
-pub axiom_kind : (k : CheckKind) (t : Triple) → Axiom k t → check_of t ≡ k
+pub axiom_kind : (k : CheckKind) (t : Triple) → Axiom k t → check_of t ≡ Some k
 unfolding check_of
-axiom_kind NoCheck t a = absurd a
 axiom_kind CaxDw t a = rw a
 axiom_kind PrpIrp t (a, b) = rw (a, b)
 axiom_kind PrpAsyp t (a, b) = rw (a, b)
 axiom_kind PrpPdw t a = rw a
 axiom_kind ClsNothing2 t (a, b) = rw (a, b)
 
-pub axiom_check : (k : CheckKind) (t : Triple) → Axiom k t → is_check k ≡ true
-axiom_check NoCheck t a = absurd a
-axiom_check CaxDw t a = refl
-axiom_check PrpIrp t a = refl
-axiom_check PrpAsyp t a = refl
-axiom_check PrpPdw t a = refl
-axiom_check ClsNothing2 t a = refl
+-- so check_of finds it
+pub kind_some : (k : CheckKind) (t : Triple) → Axiom k t → KindOf t (Some k)
+kind_some k t a = record { is = sym (axiom_kind k t a); stated = λ c e. subst (λ (x : CheckKind). Axiom x t) (same e) a }
+  where
+    same : {c : CheckKind} → Some k ≡ Some c → k ≡ c
+    same e = cc
 
-pub no_check : is_check NoCheck ≡ true → ⊥
-no_check e = true_false (sym e)
+-- and none for a triple of another predicate, or that types by another class
+pub kind_other : (t : Triple) → (t.p ≡ disjointWith → ⊥) → (t.p ≡ propertyDisjointWith → ⊥) → (t.p ≡ type → ⊥) → KindOf t None
+unfolding check_of
+kind_other t a b c = record { is = simp (ne_eqb _ _ a, ne_eqb _ _ b, ne_eqb _ _ c); stated = λ k e. cc }
+
+pub kind_typed : (t : Triple) → t.p ≡ type → (t.o ≡ IrreflexiveProperty → ⊥) → (t.o ≡ AsymmetricProperty → ⊥) → (t.o ≡ Nothing → ⊥)
+    → KindOf t None
+unfolding check_of
+kind_typed t p a b c = record { is = rw p (simp (ne_eqb _ _ a, ne_eqb _ _ b, ne_eqb _ _ c)); stated = λ k e. cc }
 
 -- the chain that has the assertions
 pub violates_key : (k : CheckKind) (R : Graph) (t u : Triple) → Violates k R t u → key_by k u ≡ t.s
-violates_key NoCheck R t u v = absurd v
 violates_key CaxDw R t u v = v.class
 violates_key PrpIrp R t u v = v.property
 violates_key PrpAsyp R t u v = v.property
 violates_key PrpPdw R t u v = v.property
 violates_key ClsNothing2 R t u v = v.instance
 
-pub block_bound : (k : CheckKind) (b : ℕ) → b ≡ assertions_block k → b ≤ 2 * block
-block_bound NoCheck b e = omega arith
-block_bound CaxDw b e = omega arith
-block_bound PrpIrp b e = omega arith
-block_bound PrpAsyp b e = omega arith
-block_bound PrpPdw b e = omega arith
-block_bound ClsNothing2 b e = omega arith
-
 chain_of : {l ix : List ℕ} {n : ℕ} → Indexed l n ix → (k : CheckKind) → Chain (λ j. key_by k (row_at l j)) n ix (assertions_block k)
-chain_of i NoCheck = i.by_subject
 chain_of i CaxDw = i.by_object
 chain_of i PrpIrp = i.by_predicate
 chain_of i PrpAsyp = i.by_predicate
@@ -69,15 +63,6 @@ chain_of i ClsNothing2 = i.by_subject
 pub chain_by : {l ix : List ℕ} {n : ℕ} → Indexed l n ix → (k : CheckKind) (b : ℕ) → b ≡ assertions_block k
     → Chain (λ j. key_by k (row_at l j)) n ix b
 chain_by {l} {ix} {n} i k b e = subst (λ (x : ℕ). Chain (λ j. key_by k (row_at l j)) n ix x) (sym e) (chain_of i k)
-
--- a record starts with the number of its check
-pub finding_check : (k : CheckKind) (t u : Triple) → is_check k ≡ true → (1 ≤ (finding_by k t u).check) × ((finding_by k t u).check ≤ 5)
-finding_check NoCheck t u e = absurd (no_check e)
-finding_check CaxDw t u e = (omega arith, omega arith)
-finding_check PrpIrp t u e = (omega arith, omega arith)
-finding_check PrpAsyp t u e = (omega arith, omega arith)
-finding_check PrpPdw t u e = (omega arith, omega arith)
-finding_check ClsNothing2 t u e = (omega arith, omega arith)
 
 -- the axiom of a finding, from the record
 axiom_in : Finding → Triple
@@ -90,7 +75,6 @@ axiom_in x =
 
 axiom_from : (k : CheckKind) (t u : Triple) → Axiom k t → axiom_in (finding_by k t u) ≡ t
 unfolding axiom_in
-axiom_from NoCheck t u a = absurd a
 axiom_from CaxDw t u a = triple_eq (triple t.s disjointWith t.o) t refl (sym a) refl
 axiom_from PrpIrp t u (a, b) = triple_eq (triple t.s type IrreflexiveProperty) t refl (sym a) (sym b)
 axiom_from PrpAsyp t u (a, b) = triple_eq (triple t.s type AsymmetricProperty) t refl (sym a) (sym b)
@@ -107,7 +91,6 @@ same_axiom {l} {n} {i} {j} {x} g h = sym (from g) ∙ from h
 -- AND FROM ONE ASSERTION
 pub same_assertion : (k : CheckKind) (R : Graph) (t u v : Triple) → Violates k R t u → Violates k R t v
     → finding_by k t u ≡ finding_by k t v → u ≡ v
-same_assertion NoCheck R t u v a b e = absurd a
 same_assertion CaxDw R t u v a b e = triple_eq u v (ap (λ (x : Finding). x.a) e) (a.typed ∙ sym b.typed) (a.class ∙ sym b.class)
 same_assertion PrpIrp R t u v a b e =
     triple_eq u v (ap (λ (x : Finding). x.b) e) (a.property ∙ sym b.property)
@@ -172,7 +155,6 @@ module _ (l : List ℕ) (n : ℕ) where
       go : (k : CheckKind) → Axiom k t → Violates k (row_graph l n) t u
           → Found (graph_of (rows n l)) (finding_by k t u).check (finding_by k t u).a (finding_by k t u).b
           (finding_by k t u).c (finding_by k t u).d
-      go NoCheck a v = absurd a
       go CaxDw a v = cax_dw (there_is j c refl v.typed v.class) (in_rows← v.other) (there_is i b refl a refl) v.nonzero
       go PrpIrp (a, o) v = prp_irp (there_is i b refl a o) (there_is j c refl v.property (sym v.same)) v.nonzero
       go PrpAsyp (a, o) v =

@@ -1,8 +1,8 @@
 -- A loop that appends what each row of a chain gives, from the last row to the first: one law for the loop over the assertions, along
 -- a chain of the index, and for the loop over the axioms, which visits every row. Assumes nothing.
-use mathlib.Core.Path.{◌≡◌, sym, subst, ◌∙◌}
+use mathlib.Core.Path.{◌≡◌, subst}
 use mathlib.Core.Logic.{◌⊎◌, inl, inr, ⊎_elim}
-use mathlib.Core.Bool.{true, false}
+use mathlib.Core.Bool.{Bool, true, false}
 use mathlib.Core.List.{List}
 use Prim.Native.Nat.{ℕ, ◌-◌, ◌≤◌, ◌<◌}
 use native.Mathlib.Omega.{arith}
@@ -26,8 +26,7 @@ pub record Scanning (key : ℕ → ℕ) (x m : ℕ) (D : ℕ → Finding → Typ
     (cur : ℕ) : Type 0 where
   pub below : cur ≤ m
   pub here : 0 < cur → key (cur - 1) ≡ x
-  pub more : b.full ≡ false
-  pub appended : Appended (Since key x m D cur) f a f' b
+  pub appended : Appended (Since key x m D cur) f a f' b false
 
 -- each record comes from one row
 abbrev pub Once : ℕ → (ℕ → Finding → Type 0) → Type 0
@@ -35,12 +34,11 @@ Once m D = (i j : ℕ) → i < m → j < m → (y : Finding) → D i y → D j y
 
 module _ {key : ℕ → ℕ} {x m : ℕ} {D : ℕ → Finding → Type 0} where
   -- at the last row of the key nothing is appended yet
-  pub scanning_start : {f : List ℕ} {a : Checked} {v : ℕ} → Ready f a → a.full ≡ false → Last key x m v → Scanning key x m D f a f a v
-  scanning_start r e h = record {
+  pub scanning_start : {f : List ℕ} {a : Checked} {v : ℕ} → Ready f a → Last key x m v → Scanning key x m D f a f a v
+  scanning_start r h = record {
     below = h.below;
     here = h.here;
-    more = e;
-    appended = appended_nothing r e (λ y s. h.none s.at s.from s.below s.keyed);
+    appended = appended_nothing r (λ y s. h.none s.at s.from s.below s.keyed);
   }
 
   module _ {f : List ℕ} {a : Checked} {f' : List ℕ} {b : Checked} {cur : ℕ} (s : Scanning key x m D f a f' b cur) (p : cur ≡ 0 → ⊥) where
@@ -76,44 +74,41 @@ module _ {key : ℕ → ℕ} {x m : ℕ} {D : ℕ → Finding → Type 0} where
     scanning_skip {v} h d = record {
       below = omega (arith, h.below, s.below);
       here = (last h).here;
-      more = s.more;
       appended = appended_iff (before h) (λ y i. ⊎_elim (λ j. j) (λ j. absurd (d y j)) (either h y i)) s.appended;
     }
 
-    module _ (once : Once m D) {f'' : List ℕ} {c : Checked} (q : Appended (D (cur - 1)) f' b f'' c) where
+    module _ (once : Once m D) where
       apart : (y : Finding) → Since key x m D cur y → D (cur - 1) y → ⊥
       apart y i d = let e = once i.at (cur - 1) i.below scanning_below y i.gives d in omega (arith, i.from)
 
+      both : {f'' : List ℕ} {c : Checked} {w : Bool} {v : ℕ} → Appended (D (cur - 1)) f' b f'' c w → Last key (key (cur - 1)) (cur - 1) v
+          → Appended (Since key x m D v) f a f'' c w
+      both q h = appended_then s.appended q apart (before h) (now h) (λ _. either h)
+
       -- what is given for the row at cur was appended
-      pub scanning_step : {v : ℕ} → Last key (key (cur - 1)) (cur - 1) v → c.full ≡ false → Scanning key x m D f a f'' c v
-      scanning_step {v} h e = record {
-        below = omega (arith, h.below, s.below);
-        here = (last h).here;
-        more = e;
-        appended = appended_then s.appended s.more q apart (before h) (now h) (λ _. either h);
-      }
+      pub scanning_step : {f'' : List ℕ} {c : Checked} {v : ℕ} → Appended (D (cur - 1)) f' b f'' c false
+          → Last key (key (cur - 1)) (cur - 1) v
+          → Scanning key x m D f a f'' c v
+      scanning_step {v = v} q h = record { below = omega (arith, h.below, s.below); here = (last h).here; appended = both q h }
 
       -- or did not fit
-      pub scanning_full : {v : ℕ} → Last key (key (cur - 1)) (cur - 1) v → c.full ≡ true → Appended (Since key x m D 0) f a f'' c
-      scanning_full {v} h e = record {
+      pub scanning_full : {f'' : List ℕ} {c : Checked} {v : ℕ} → Appended (D (cur - 1)) f' b f'' c true
+          → Last key (key (cur - 1)) (cur - 1) v
+          → Appended (Since key x m D 0) f a f'' c true
+      scanning_full {f''} {c} {v} q h = record {
         same_length = z.same_length;
         ready = z.ready;
         new = z.new;
         records = z.records;
         distinct = z.distinct;
         sound = λ y i. later y (z.sound y i);
-        all = λ g. true_false (sym e ∙ g);
+        all = λ g. true_false g;
         over = λ g. let o = z.over g in record
             { short = o.short; what = o.what; wanted = later o.what o.wanted; absent = o.absent };
       }
         where
-          z : Appended (Since key x m D v) f a f'' c
-          z = appended_then s.appended s.more q apart (before h) (now h) (λ _. either h)
+          z : Appended (Since key x m D v) f a f'' c true
+          z = both q h
 
           later : (y : Finding) → Since key x m D v y → Since key x m D 0 y
           later y i = record { at = i.at; from = omega arith; below = i.below; keyed = i.keyed; gives = i.gives }
-
-  -- at the end
-  pub scanning_end : {f : List ℕ} {a : Checked} {f' : List ℕ} {b : Checked} {cur : ℕ} → Scanning key x m D f a f' b cur
-      → cur ≡ 0 → Appended (Since key x m D 0) f a f' b
-  scanning_end {f} {a} {f'} {b} s e = subst (λ (k : ℕ). Appended (Since key x m D k) f a f' b) e s.appended

@@ -2,7 +2,7 @@
 -- Assumes nothing.
 use mathlib.Core.Path.{◌≡◌, sym, ap, ap₂, subst, ◌∙◌}
 use mathlib.Core.Logic.{⊎_elim}
-use mathlib.Core.Bool.{true, false}
+use mathlib.Core.Bool.{Bool, true, false}
 use mathlib.Core.List.{List, [], ◌∷◌, ◌++◌}
 use Prim.Native.Nat.{ℕ, suc, ◌-◌, ◌*◌, ◌/◌, ◌≤◌, ◌<◌}
 use native.Mathlib.Omega.{arith}
@@ -58,7 +58,8 @@ module _ {l : List ℕ} {n : ℕ} where
   from_findings : {x : Finding} → In x (findings (rows n l)) → GivenByRows l n x
   from_findings i = found→given l n (findings→ (rows n l) i)
 
-module _ {l : List ℕ} {n : ℕ} {f f₁ : List ℕ} {r : Checked} (p : Appended (GivenByRows l n) f nothing_yet f₁ r) where
+module _ {l : List ℕ} {n : ℕ} {f f₁ : List ℕ} {r : Checked} {w : Bool}
+    (p : Appended (GivenByRows l n) f nothing_yet f₁ r w) where
   new_is : finding_rows r.n f₁ ≡ p.new
   new_is = p.records ∙ ap (λ (xs : List Finding). xs ++ p.new) (listed_none (finding_at f))
 
@@ -66,7 +67,7 @@ module _ {l : List ℕ} {n : ℕ} {f f₁ : List ℕ} {r : Checked} (p : Appende
   new_length = ap length (sym new_is) ∙ length_listed r.n (finding_at f₁)
 
   -- one that does not fit: the findings are more than the records
-  too_many : r.full ≡ true → length f / finding_width < length (findings (rows n l))
+  too_many : w ≡ true → length f / finding_width < length (findings (rows n l))
   too_many e =
       let o = p.over e in
       let xs : List Finding = o.what ∷ p.new in
@@ -76,14 +77,14 @@ module _ {l : List ℕ} {n : ℕ} {f f₁ : List ℕ} {r : Checked} (p : Appende
       (λ z i. in_findings (⊎_elim (λ q. subst (GivenByRows l n) (sym q) o.wanted) (p.sound z) (in_cons (in_sorted→ xs i)))) in
       omega (arith, new_length, o.short, p.same_length)
 
-  pub whole_over : r.full ≡ true → Checks l n f r f₁
+  pub whole_over : w ≡ true → Checks l n f r w f₁
   whole_over e = record {
     fits = λ h. absurd (let k = too_many e in omega arith);
     over = λ _. e;
     same_length = p.same_length;
   }
 
-  module _ (e : r.full ≡ false) {f₂ f₃ : List ℕ} (s : Sorted finding_width finding_width r.n f₁ f₂)
+  module _ (e : w ≡ false) {f₂ f₃ : List ℕ} (s : Sorted finding_width finding_width r.n f₁ f₂)
       (q : f₃ ≡ cleared (finding_width * r.n) f₂) (long : length f₃ ≡ length f) where
     the_findings : sorted (finding_rows r.n f₁) ≡ findings (rows n l)
     the_findings =
@@ -110,7 +111,7 @@ module _ {l : List ℕ} {n : ℕ} {f f₁ : List ℕ} {r : Checked} (p : Appende
         ∙ ap₂ (λ (k : ℕ) (xs : List Finding). flat_findings xs ++ replicate (k - length (flat_findings xs)) 0) p.same_length the_findings
 
     -- THE CHECKS
-    pub whole_fits : Checks l n f r f₃
+    pub whole_fits : Checks l n f r w f₃
     whole_fits = record {
       fits = λ _. record { full = e; n = number; counts = counted; filled_in = left };
       over = λ h. absurd (omega (arith, number, p.ready.room, p.same_length));

@@ -1,6 +1,7 @@
 -- The findings buffer: n records of five numbers, with the five counts, one for each check; strictly ascending, then zeros; refusal 9
 -- where there are more findings than records. REFERENCE 3.4 and 7.2. Assumes nothing.
-use Rattle.std.specs.Prelude.{◌≡◌, true, false, List, [], ◌∷◌, ◌++◌, ℕ, ◌+◌, ◌-◌, ◌*◌, ◌/◌, ◌%◌, ◌≤◌, ◌<◌, length, get_or, set}
+use Rattle.std.specs.Prelude.{◌≡◌, Result, Ok, Err, Bool, true, false}
+use Rattle.std.specs.Prelude.{List, [], ◌∷◌, ◌++◌, ℕ, ◌+◌, ◌-◌, ◌*◌, ◌/◌, ◌%◌, ◌≤◌, ◌<◌, length, get_or, set}
 use Rattle.common.specs.Sizes.{finding_width, finding_limit}
 use Rattle.common.specs.Triples.{Finding, In, Distinct}
 use Rattle.meaning.specs.Closure.{findings, five_counts}
@@ -8,6 +9,7 @@ use Rattle.common.specs.Rows.{flat_findings, filled}
 use Rattle.store_rows.specs.Rows.{rows, finding_rows}
 use Rattle.store_rows.specs.Store.{Good, Indexed}
 use Rattle.engine_checks.specs.declared.Checked.{Checked}
+use Rattle.engine_checks.specs.declared.TooMany.{TooMany}
 
 -- the buffer with x as its record j
 abbrev pub set_finding : List ℕ → ℕ → Finding → List ℕ
@@ -24,9 +26,18 @@ pub record Readable (l h ix : List ℕ) (n : ℕ) : Type 0 where
   pub good : Good l h n
   pub indexed : Indexed l n ix
 
+-- what a loop answers: the records that there are, and whether one more did not fit
+abbrev pub found_of : Result Checked TooMany → Checked
+found_of (Ok a) = a
+found_of (Err e) = e.found
+
+abbrev pub is_over : Result Checked TooMany → Bool
+is_over (Ok a) = false
+is_over (Err e) = true
+
 -- no records yet
 abbrev pub nothing_yet : Checked
-nothing_yet = record { n = 0; full = false; counts = 0 ∷ 0 ∷ 0 ∷ 0 ∷ 0 ∷ [] }
+nothing_yet = record { n = 0; counts = 0 ∷ 0 ∷ 0 ∷ 0 ∷ 0 ∷ [] }
 
 -- a buffer that has its records and their counts
 pub record Ready (f : List ℕ) (a : Checked) : Type 0 where
@@ -42,15 +53,15 @@ pub record Missing (C : Finding → Type 0) (f : List ℕ) (n : ℕ) (xs : List 
   pub absent : In what xs → ⊥
 
 -- from a to b by appending the records of C, each once: all of them, or one does not fit
-pub record Appended (C : Finding → Type 0) (f : List ℕ) (a : Checked) (f' : List ℕ) (b : Checked) : Type 0 where
+pub record Appended (C : Finding → Type 0) (f : List ℕ) (a : Checked) (f' : List ℕ) (b : Checked) (more : Bool) : Type 0 where
   pub same_length : length f' ≡ length f
   pub ready : Ready f' b
   pub new : List Finding
   pub records : finding_rows b.n f' ≡ finding_rows a.n f ++ new
   pub distinct : Distinct new
   pub sound : (x : Finding) → In x new → C x
-  pub all : b.full ≡ false → (x : Finding) → C x → In x new
-  pub over : b.full ≡ true → Missing C f' b.n new
+  pub all : more ≡ false → (x : Finding) → C x → In x new
+  pub over : more ≡ true → Missing C f' b.n new
 
 -- a findings buffer: five numbers a record
 pub record Buffer (f : List ℕ) : Type 0 where
@@ -58,14 +69,14 @@ pub record Buffer (f : List ℕ) : Type 0 where
   pub few : length f ≤ finding_width * finding_limit
 
 -- the findings fit: their number and counts, and the buffer has them in order, then zeros
-pub record Fits (fs : List Finding) (f : List ℕ) (r : Checked) (f' : List ℕ) : Type 0 where
-  pub full : r.full ≡ false
+pub record Fits (fs : List Finding) (f : List ℕ) (r : Checked) (more : Bool) (f' : List ℕ) : Type 0 where
+  pub full : more ≡ false
   pub n : r.n ≡ length fs
   pub counts : r.counts ≡ five_counts fs
   pub filled_in : f' ≡ filled f (flat_findings fs)
 
 -- THE CHECKS of the first n rows of l
-pub record Checks (l : List ℕ) (n : ℕ) (f : List ℕ) (r : Checked) (f' : List ℕ) : Type 0 where
-  pub fits : length (findings (rows n l)) ≤ length f / finding_width → Fits (findings (rows n l)) f r f'
-  pub over : length f / finding_width < length (findings (rows n l)) → r.full ≡ true
+pub record Checks (l : List ℕ) (n : ℕ) (f : List ℕ) (r : Checked) (more : Bool) (f' : List ℕ) : Type 0 where
+  pub fits : length (findings (rows n l)) ≤ length f / finding_width → Fits (findings (rows n l)) f r more f'
+  pub over : length f / finding_width < length (findings (rows n l)) → more ≡ true
   pub same_length : length f' ≡ length f

@@ -1,13 +1,13 @@
 -- The pairs of rows that give a finding: an axiom and an assertion that violates it, a check by its W3C name. REFERENCE 7.1. For
 -- cls-nothing2 the assertion is the axiom itself. Assumes nothing.
-use Rattle.std.specs.Prelude.{◌≡◌, ◌≢◌, Bool, true, false, List, ℕ, ◌<◌, eqb}
+use Rattle.std.specs.Prelude.{◌≡◌, ◌≢◌, Option, Some, None, List, ℕ, ◌<◌, eqb}
 use Rattle.common.specs.Triples.{Triple, Finding, finding, if}
 use Rattle.common.specs.Vocabulary.{type, Nothing, IrreflexiveProperty, AsymmetricProperty, disjointWith, propertyDisjointWith}
 use Rattle.meaning.specs.Rules.{Graph}
 use Rattle.store_rows.specs.Rows.{row_at, row_graph}
 use Rattle.store_rows.specs.Layout.{subjects_at, predicates_at, objects_at}
 use Rattle.engine_checks.specs.declared.CheckKind.{CheckKind}
-use Rattle.engine_checks.specs.declared.CheckKind.TheVariants.{NoCheck, CaxDw, PrpIrp, PrpAsyp, PrpPdw, ClsNothing2}
+use Rattle.engine_checks.specs.declared.CheckKind.TheVariants.{CaxDw, PrpIrp, PrpAsyp, PrpPdw, ClsNothing2}
 use Rattle.engine_checks.specs.declared.Finding as declared
 
 -- the finding that a value of the type Finding of src/ stands for
@@ -16,36 +16,27 @@ finding_of x = finding x.check x.a x.b x.c x.d
 
 -- t is an axiom of the check
 abbrev pub Axiom : CheckKind → Triple → Type 0
-Axiom NoCheck t = ⊥
 Axiom CaxDw t = t.p ≡ disjointWith
 Axiom PrpIrp t = (t.p ≡ type) × (t.o ≡ IrreflexiveProperty)
 Axiom PrpAsyp t = (t.p ≡ type) × (t.o ≡ AsymmetricProperty)
 Axiom PrpPdw t = t.p ≡ propertyDisjointWith
 Axiom ClsNothing2 t = (t.p ≡ type) × (t.o ≡ Nothing)
 
--- the check whose axiom t is
-unfoldable pub check_of : Triple → CheckKind
+-- the check whose axiom t is, if any
+unfoldable pub check_of : Triple → Option CheckKind
 check_of t =
-    if (eqb t.p disjointWith) (λ _. CaxDw)
-    (λ _. if (eqb t.p propertyDisjointWith) (λ _. PrpPdw)
+    if (eqb t.p disjointWith) (λ _. Some CaxDw)
+    (λ _. if (eqb t.p propertyDisjointWith) (λ _. Some PrpPdw)
     (λ _. if (eqb t.p type)
-    (λ _. if (eqb t.o IrreflexiveProperty) (λ _. PrpIrp)
-    (λ _. if (eqb t.o AsymmetricProperty) (λ _. PrpAsyp)
-    (λ _. if (eqb t.o Nothing) (λ _. ClsNothing2) (λ _. NoCheck))))
-    (λ _. NoCheck)))
+    (λ _. if (eqb t.o IrreflexiveProperty) (λ _. Some PrpIrp)
+    (λ _. if (eqb t.o AsymmetricProperty) (λ _. Some PrpAsyp)
+    (λ _. if (eqb t.o Nothing) (λ _. Some ClsNothing2) (λ _. None))))
+    (λ _. None)))
 
 -- k is the check whose axiom t is, if any
-pub record KindOf (t : Triple) (k : CheckKind) : Type 0 where
+pub record KindOf (t : Triple) (k : Option CheckKind) : Type 0 where
   pub is : k ≡ check_of t
-  pub stated : k ≢ NoCheck → Axiom k t
-
-abbrev pub is_check : CheckKind → Bool
-is_check NoCheck = false
-is_check CaxDw = true
-is_check PrpIrp = true
-is_check PrpAsyp = true
-is_check PrpPdw = true
-is_check ClsNothing2 = true
+  pub stated : (c : CheckKind) → k ≡ Some c → Axiom c t
 
 -- Assertions u that violate an axiom t. Check 1: i type c, i type d, c disjointWith d, i not 0
 pub record TypedByBoth (R : Graph) (t u : Triple) : Type 0 where
@@ -86,7 +77,6 @@ pub record OfNothing (t u : Triple) : Type 0 where
 
 -- the assertion u violates the axiom t of a check
 abbrev pub Violates : CheckKind → Graph → Triple → Triple → Type 0
-Violates NoCheck R t u = ⊥
 Violates CaxDw R t u = TypedByBoth R t u
 Violates PrpIrp R t u = Reflexive t u
 Violates PrpAsyp R t u = BothWays R t u
@@ -95,7 +85,6 @@ Violates ClsNothing2 R t u = OfNothing t u
 
 -- the record of the finding, which starts with the check's number
 abbrev pub finding_by : CheckKind → Triple → Triple → Finding
-finding_by NoCheck t u = finding 0 0 0 0 0
 finding_by CaxDw t u = finding 1 u.s t.s t.o 0
 finding_by PrpIrp t u = finding 2 t.s u.s 0 0
 finding_by PrpAsyp t u = finding 3 t.s u.s u.o 0
@@ -104,7 +93,6 @@ finding_by ClsNothing2 t u = finding 5 t.s 0 0 0
 
 -- assertions that can violate t have t's subject as their object, predicate or subject: the block of the index with these chains
 abbrev pub assertions_block : CheckKind → ℕ
-assertions_block NoCheck = subjects_at
 assertions_block CaxDw = objects_at
 assertions_block PrpIrp = predicates_at
 assertions_block PrpAsyp = predicates_at
@@ -112,7 +100,6 @@ assertions_block PrpPdw = predicates_at
 assertions_block ClsNothing2 = subjects_at
 
 abbrev pub key_by : CheckKind → Triple → ℕ
-key_by NoCheck u = u.s
 key_by CaxDw u = u.o
 key_by PrpIrp u = u.p
 key_by PrpAsyp u = u.p

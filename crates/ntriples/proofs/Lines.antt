@@ -1,10 +1,9 @@
 -- The lines of a file, from one place on and one after the other. Assumes nothing.
-use mathlib.Core.Path.{◌≡◌, refl, sym, ◌∙◌, ap, subst}
+use mathlib.Core.Path.{◌≡◌, refl, sym, ◌∙◌, ap}
 use mathlib.Core.Bool.{Bool, true, false}
 use mathlib.Core.List.{List, [], ◌∷◌, ◌++◌}
 use Prim.Native.Nat.{ℕ, zero, suc, ◌+◌, ◌-◌, ◌≤◌, ◌<◌}
 use native.Mathlib.Omega.{arith}
-use native.Mathlib.Decide.{ℕ_discrete}
 use lib.Dec.{T, T_not}
 use lib.ListN.{length, get_or, take, drop}
 use lib.Seq.{drop-cons, drop-length}
@@ -16,20 +15,6 @@ use Rattle.ntriples.specs.Reading.{onto, lines}
 use Rattle.ntriples.specs.Files.{inline, Clear}
 
 -- FROM A PLACE ON: none is looked at
-pub clear_start : (file : List ℕ) (at : ℕ) → at ≤ length file → Clear file at at
-clear_start file at h = record { above = omega arith; upto = h; no_end = λ k i j t. omega arith }
-
--- one more is
-pub clear_more : (file : List ℕ) (at e : ℕ) → Clear file at e → e < length file → (T (line_end (get_or file e 0)) → ⊥) → Clear file at
-    (e + 1)
-clear_more file at e c h n = record {
-  above = omega (arith, c.above);
-  upto = omega arith;
-  no_end = λ k i j t. elim (ℕ_discrete k e) [
-    | yes q ↦ n (subst (λ (x : ℕ). T (line_end (get_or file x 0))) q t)
-    | no d ↦ c.no_end k i (omega arith) t
-  ];
-}
 
 -- n bytes that end no line, in front of an end of a line or of the file
 module _ (file : List ℕ) (R : List (List ℕ)) where

@@ -15,8 +15,7 @@ use Rattle.ntriples.specs.Characters.{one_of, all, iri_char, iri, tag_char, tag}
 use Rattle.ntriples.specs.Grammar.{or, label, iriref, string_literal_quote, blank_node_label, ws, Found, as_term, literal_chars}
 use Rattle.ntriples.specs.Grammar.{named, blank_node, suffix, literal, subject, object, Terms, terms, Line, says, bad, ended, stopped}
 use Rattle.ntriples.specs.Grammar.{on_line, triple_line, statement, line}
-use Rattle.ntriples.specs.Nodes.{Node, named_node, labelled, literal_of, term_of_node, whole, well_formed, no_literal, is_named}
-use Rattle.ntriples.specs.Nodes.{Nodes}
+use Rattle.ntriples.specs.Nodes.{Node, named_node, labelled, literal_of, term_of_node, whole, well_formed, no_literal, is_named, Nodes}
 use Rattle.ntriples.proofs.Tests.{if_ind, or→, same_some, on→}
 use Rattle.ntriples.proofs.Utf8.{decode_encode, decoded_scalars}
 use Rattle.ntriples.proofs.Tokens.{all_append, all_right, all_map, tag_chars}

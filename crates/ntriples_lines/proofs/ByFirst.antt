@@ -13,8 +13,8 @@ use Rattle.ntriples.specs.Grammar.{Token, token, or, literal_chars, xsd_string, 
 use Rattle.ntriples.specs.Grammar.{langtag, typed, suffix, named, blank_node, literal, subject, object}
 use Rattle.ntriples.proofs.Utf8.{encode_append}
 use Rattle.ntriples_tokens.specs.Promises.{Parses, SpaceEnds}
-use Rattle.ntriples_tokens.specs.declared.values.Parsed.{Parsed}
-use Rattle.ntriples_tokens.specs.declared.values.Parsed.TheVariants.{At}
+use Rattle.std.specs.Prelude.{Option as Maybe, Some}
+use Rattle.ntriples_tokens.specs.declared.values.Token.{Token as Ends}
 use Rattle.ntriples_lines.specs.Promises.{xsd_width, plain_width, as_found, Finds}
 use Rattle.ntriples_lines.specs.declared.terms.FoundTerm.{FoundTerm}
 use Rattle.ntriples_lines.proofs.Answers.{GotToken, found}
@@ -139,7 +139,7 @@ plain_long = omega arith
 -- A PLAIN LITERAL'S DATATYPE, written
 pub plain : {chars : List ℕ} {at : ℕ} {old : List ℕ} {used : ℕ} {new : List ℕ} → at ≤ length chars → used + xsd_width ≤ length old
     → suffix (drop at chars) ≡ some (token xsd_string (drop at chars)) → new ≡ paste old used xsd_string xsd_width
-    → Parses xsd_width chars at old used (suffix (drop at chars)) (At at (used + xsd_width)) new
+    → Parses xsd_width chars at old used (suffix (drop at chars)) (Some (record { next = at; end = used + xsd_width })) new
 plain {chars} {at} {old} {used} {new} h f e w =
     let l = plain_long in record {
       output_is = rw (e, w, encode_plain, take-paste old used xsd_string xsd_width (omega arith) l) refl;
@@ -157,22 +157,23 @@ pub literal_bad : (cs : List ℕ) → string_literal_quote cs ≡ none → liter
 unfolding literal
 literal_bad cs e = rw e refl
 
-module _ {chars : List ℕ} {at : ℕ} {old : List ℕ} {used after n : ℕ} {mid : List ℕ} {next : ℕ} {r : Parsed} {new : List ℕ}
-    (g : GotToken chars at old used (string_literal_quote (drop at chars)) after n mid) (s : SpaceEnds chars after next)
-    (h : n < length mid)
-    (p : Parses xsd_width chars next (set mid n 0) (n + 1) (suffix (drop next chars)) r new) where
+module _ {chars : List ℕ} {at : ℕ} {old : List ℕ} {used : ℕ} {text : Ends} {mid : List ℕ} {next : ℕ} {r : Maybe Ends} {new : List ℕ}
+    (g : GotToken chars at old used (string_literal_quote (drop at chars)) text mid) (s : SpaceEnds chars text.next next)
+    (h : text.end < length mid)
+    (p : Parses xsd_width chars next (set mid text.end 0) (text.end + 1) (suffix (drop next chars)) r new) where
   -- the bytes before those of the tag or datatype
-  literal_front : (t : Token) → take (n + 1) (set mid n 0) ++ encode t.chars
+  literal_front : (t : Token) → take (text.end + 1) (set mid text.end 0) ++ encode t.chars
       ≡ take used old ++ encode (literal_chars g.got.chars t.chars)
   literal_front t =
-      rw (add-one n, take-suc-set mid n 0 h, g.front, encode_literal g.got.chars t.chars, append_assoc, append_assoc) refl
+      rw (add-one text.end, take-suc-set mid text.end 0 h, g.front, encode_literal g.got.chars t.chars, append_assoc, append_assoc) refl
 
   -- the whole literal
-  pub literal_found : {q : FoundTerm} → q ≡ as_found 3 r → Finds plain_width chars at old used (literal (drop at chars)) q new
+  pub literal_found : {q : Maybe FoundTerm} → q ≡ as_found 3 r
+      → Finds plain_width chars at old used (literal (drop at chars)) q new
   unfolding literal
   literal_found i =
       let e : ws g.got.rest ≡ drop next chars = ap ws g.rest ∙ s.rest_is in
       let b = g.bounded in
       let a = s.after in
       rw (g.is, e) (found 3 (λ t. literal_chars g.got.chars t.chars) literal_front (omega arith) (omega arith) (omega arith)
-      (length-set mid n 0 ∙ g.same) p i)
+      (length-set mid text.end 0 ∙ g.same) p i)

@@ -1,5 +1,5 @@
 -- Lines: what three terms, or the want of one, say of the whole line. Assumes nothing.
-use mathlib.Core.Path.{◌≡◌, refl, sym, ap, ap₂, subst, ◌∙◌}
+use mathlib.Core.Path.{◌≡◌, refl, sym, ap, ap₂, ◌∙◌}
 use mathlib.Core.Bool.{true, false}
 use mathlib.Core.Option.{Option, some, none}
 use mathlib.Core.List.{List, [], ◌∷◌, ◌++◌, append_cancel_left}
@@ -18,12 +18,13 @@ use Rattle.ntriples.specs.Grammar.{Token, Found, as_term, Terms, terms, Line, sa
 use Rattle.ntriples.specs.Grammar.{stopped, triple_line, statement, line}
 use Rattle.ntriples.proofs.Tests.{no_some}
 use Rattle.ntriples.proofs.Utf8.{scalar_top, decoded_scalars}
-use Rattle.ntriples_utf8.specs.Promises.{top, decoded_of, count_of, Decodes}
-use Rattle.ntriples_utf8.specs.declared.Decoded.{Decoded}
-use Rattle.ntriples_utf8.specs.declared.Decoded.TheVariants.{Chars, Bad as NotUtf8}
+use Rattle.ntriples_utf8.specs.Promises.{top, Decodes}
 use Rattle.ntriples_tokens.specs.Promises.{part, Room, SpaceEnds}
-use Rattle.ntriples_lines.specs.Promises.{plain_width, finish, Says, LineFits}
-use Rattle.ntriples_lines.specs.declared.Said.TheVariants.{Nothing, Triple, Bad as BadLine}
+use Rattle.std.specs.Prelude.{Some, None}
+use Rattle.ntriples_lines.specs.Promises.{plain_width, finish, Says, LineFits, terms_at}
+use Rattle.ntriples_lines.specs.declared.terms.FoundTerm.{FoundTerm}
+use Rattle.ntriples_lines.specs.declared.LineTerms.{LineTerms}
+use Rattle.ntriples_lines.specs.declared.Said.TheVariants.{Nothing, Triple}
 use Rattle.ntriples_lines.proofs.Answers.{Got}
 use Rattle.ntriples_lines.proofs.ByFirst.{at_end, at_char}
 
@@ -61,7 +62,7 @@ stopped_is t [] = refl
 stopped_is t (c ∷ cs) = refl
 
 -- a line that is none of the grammar's
-pub says_bad : {l : Line} {out : List ℕ} → l ≡ bad → Says l BadLine out
+pub says_bad : {l : Line} {out : List ℕ} → l ≡ bad → Says l None out
 says_bad e = record { said_is = sym e; ordered = tt }
 
 -- a predicate is a named node
@@ -81,12 +82,12 @@ part_is a b out xs h e =
     append_cancel_left (take a out) (part out a b) xs (sym (take-add a (b - a) out) ∙ (ap (λ n. take n out) k ∙ e))
 
 -- what stands in front is as it was
-stays : {more : ℕ} {chars : List ℕ} {at : ℕ} {old : List ℕ} {used : ℕ} {o : Option Found} {k next n : ℕ} {new : List ℕ} (a : ℕ)
-    → Got more chars at old used o k next n new → a ≤ used → used ≤ length old → take a new ≡ take a old
-stays {old = old} {used = used} {n = n} {new = new} a g h i =
+stays : {more : ℕ} {chars : List ℕ} {at : ℕ} {old : List ℕ} {used : ℕ} {o : Option Found} {t : FoundTerm} {new : List ℕ} (a : ℕ)
+    → Got more chars at old used o t new → a ≤ used → used ≤ length old → take a new ≡ take a old
+stays {old = old} {used = used} {t = t} {new = new} a g h i =
     let b = g.bounded in
     let l = length-take-le used old i in
-    sym (take-take a n new (omega arith))
+    sym (take-take a t.end new (omega arith))
     ∙ (ap (take a) g.front ∙ (take-append-le a (take used old) g.got.found.bytes (omega arith) ∙ take-take a used old h))
 
 -- a term by its kind and its bytes
@@ -98,8 +99,8 @@ pub subject_bad : (cs : List ℕ) → subject cs ≡ none → triple_line cs ≡
 unfolding triple_line
 subject_bad cs e = rw e refl
 
-module _ {chars : List ℕ} {at : ℕ} {out₀ : List ℕ} {k sn a : ℕ} {out₁ : List ℕ} {p : ℕ}
-    (s : Got 0 chars at out₀ 0 (subject (drop at chars)) k sn a out₁) (w : SpaceEnds chars sn p) where
+module _ {chars : List ℕ} {at : ℕ} {out₀ : List ℕ} {st : FoundTerm} {out₁ : List ℕ} {p : ℕ}
+    (s : Got 0 chars at out₀ 0 (subject (drop at chars)) st out₁) (w : SpaceEnds chars st.next p) where
   -- the predicate is read from p on
   predicate_from : ws s.got.rest ≡ drop p chars
   predicate_from = ap ws s.rest ∙ w.rest_is
@@ -109,8 +110,8 @@ module _ {chars : List ℕ} {at : ℕ} {out₀ : List ℕ} {k sn a : ℕ} {out�
   unfolding triple_line
   predicate_bad e = rw (s.is, predicate_from, e) refl
 
-  module _ {j pn b : ℕ} {out₂ : List ℕ} {o : ℕ} (q : Got 0 chars p out₁ a (named (drop p chars)) j pn b out₂)
-      (v : SpaceEnds chars pn o) where
+  module _ {pt : FoundTerm} {out₂ : List ℕ} {o : ℕ} (q : Got 0 chars p out₁ st.end (named (drop p chars)) pt out₂)
+      (v : SpaceEnds chars pt.next o) where
     -- the object from o on
     object_from : ws q.got.rest ≡ drop o chars
     object_from = ap ws q.rest ∙ v.rest_is
@@ -120,8 +121,9 @@ module _ {chars : List ℕ} {at : ℕ} {out₀ : List ℕ} {k sn a : ℕ} {out�
     unfolding triple_line
     object_bad e = rw (s.is, predicate_from, q.is, object_from, e) refl
 
-    module _ {l end c : ℕ} {out₃ : List ℕ} {dot : ℕ} (r : Got plain_width chars o out₂ b (object (drop o chars)) l end c out₃)
-        (u : SpaceEnds chars end dot) where
+    module _ {ot : FoundTerm} {out₃ : List ℕ} {dot : ℕ}
+        (r : Got plain_width chars o out₂ pt.end (object (drop o chars)) ot out₃)
+        (u : SpaceEnds chars ot.next dot) where
       -- with all three
       line_is : triple_line (drop at chars)
           ≡ if (finish (drop dot chars)) (λ _. says (terms s.got.found q.got.found r.got.found)) (λ _. bad)
@@ -136,7 +138,7 @@ module _ {chars : List ℕ} {at : ℕ} {out₀ : List ℕ} {k sn a : ℕ} {out�
 
       module _ (room : Room plain_width chars at out₀ 0) where
         -- A TRIPLE: the terms' bytes end within the buffer,
-        fits : (a ≤ length out₁) × (b ≤ length out₂) × (c ≤ length out₃)
+        fits : (st.end ≤ length out₁) × (pt.end ≤ length out₂) × (ot.end ≤ length out₃)
         fits =
             let f = room.room in
             let x = s.bounded in
@@ -150,34 +152,44 @@ module _ {chars : List ℕ} {at : ℕ} {out₀ : List ℕ} {k sn a : ℕ} {out�
             (omega arith, omega arith, omega arith)
 
         -- they are the bytes between these ends,
-        terms_are : terms (term k (take a out₃)) (term 1 (part out₃ a b)) (term l (part out₃ b c))
-            ≡ terms s.got.found q.got.found r.got.found
+        abbrev its_terms : LineTerms
+        its_terms = record {
+          subject_kind = st.kind;
+          subject_end = st.end;
+          predicate_end = pt.end;
+          object_kind = ot.kind;
+          object_end = ot.end;
+        }
+
+        terms_are : terms_at its_terms out₃ ≡ terms s.got.found q.got.found r.got.found
         terms_are =
             let f = fits in
             let y = q.bounded in
             let z = r.bounded in
+            let a = st.end in
+            let b = pt.end in
             let b₃ : take b out₃ ≡ take b out₂ = stays b r (omega arith) (omega arith) in
             let a₂ : take a out₂ ≡ take a out₁ = stays a q (omega arith) (omega arith) in
             let a₃ : take a out₃ ≡ take a out₂ = stays a r (omega arith) (omega arith) in
             let x₁ = term_is s.got.found s.kind (a₃ ∙ (a₂ ∙ s.front)) in
             let x₂ = term_is q.got.found (named_kind (drop p chars) q.got q.is)
             (part_is a b out₃ q.got.found.bytes (omega arith) (b₃ ∙ (q.front ∙ rw (a₃, a₂) refl))) in
-            let x₃ = term_is r.got.found r.kind (part_is b c out₃ r.got.found.bytes (omega arith) (r.front ∙ rw b₃ refl)) in
+            let x₃ = term_is r.got.found r.kind (part_is b ot.end out₃ r.got.found.bytes (omega arith) (r.front ∙ rw b₃ refl)) in
             λ i. terms (x₁ i) (x₂ i) (x₃ i)
 
         -- so that kinds and ends say the triple
-        pub triple_said : true ≡ finish (drop dot chars) → Says (triple_line (drop at chars)) (Triple k a b l c) out₃
+        pub triple_said : true ≡ finish (drop dot chars) → Says (triple_line (drop at chars)) (Some (Triple its_terms)) out₃
         triple_said e =
             let f = fits in
             let y = q.bounded in
             let z = r.bounded in record {
               said_is = ap says terms_are ∙ sym (line_is ∙ rw (← e) refl);
-              ordered = (omega arith, omega arith, omega arith);
+              ordered = record { s_p = omega arith; p_o = omega arith; within = omega arith };
             }
 
 module _ {chars : List ℕ} {at : ℕ} (w : SpaceEnds chars 0 at) where
   -- THE SCALAR VALUES OF A LINE, after white space: nothing but a comment,
-  pub statement_ended : {out : List ℕ} → true ≡ ended (drop at chars) → Says (statement (ws chars)) Nothing out
+  pub statement_ended : {out : List ℕ} → true ≡ ended (drop at chars) → Says (statement (ws chars)) (Some Nothing) out
   unfolding statement
   statement_ended e = record { said_is = rw (w.rest_is, ← e) refl; ordered = tt }
 
@@ -187,18 +199,9 @@ module _ {chars : List ℕ} {at : ℕ} (w : SpaceEnds chars 0 at) where
   statement_triple e = rw (w.rest_is, ← e) refl
 
 -- THE BYTES OF A LINE: not UTF-8,
-pub line_undecoded : {bytes : List ℕ} {r : Decoded} {chars : List ℕ} → r ≡ NotUtf8 → Decodes bytes r chars → line bytes ≡ bad
+pub line_undecoded : {bytes chars : List ℕ} → Decodes bytes None chars → line bytes ≡ bad
 unfolding line
-line_undecoded {chars = chars} e d = rw (← d.chars_are, e) refl
-
--- or scalar values
-pub case_decoded : {bytes : List ℕ} {r : Decoded} {n : ℕ} {chars : List ℕ} → r ≡ Chars n → Decodes bytes r chars
-    → decode bytes ≡ some (take n chars)
-case_decoded {chars = chars} e d = sym d.chars_are ∙ ap (λ r. decoded_of r chars) e
-
--- no more than bytes
-pub case_few : {bytes : List ℕ} {r : Decoded} {n : ℕ} {chars : List ℕ} → r ≡ Chars n → Decodes bytes r chars → n ≤ length bytes
-case_few {bytes} e d = subst (λ r. count_of r ≤ length bytes) e d.few
+line_undecoded d = rw (← d.chars_are) refl
 
 -- what they say
 pub line_decoded : (bytes cs : List ℕ) → decode bytes ≡ some cs → line bytes ≡ statement (ws cs)

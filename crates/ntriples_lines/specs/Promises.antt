@@ -1,16 +1,16 @@
 -- What the functions that read terms and lines promise. The bytes of a line's terms go into `out` one behind the other. Assumes nothing.
 use Rattle.std.specs.Prelude.{◌≡◌, Bool, false, ◌&&◌, List, [], ◌∷◌, ◌++◌, ℕ, ◌+◌, ◌*◌, ◌≤◌, eqb, length, take, drop}
+use Rattle.std.specs.Prelude.{Option as Maybe, Some, None}
 use Rattle.std.proofs.Math.Option.{Option, some, none}
 use Rattle.dictionary_layout.specs.Terms.{term}
-use Rattle.ntriples.specs.Grammar.{Found, Line, nothing, says, bad, terms, ws, ended}
+use Rattle.ntriples.specs.Grammar.{Found, Line, nothing, says, bad, Terms, terms, ws, ended}
 use Rattle.ntriples.specs.Reading.{line_limit}
 use Rattle.ntriples_tokens.specs.Promises.{part}
-use Rattle.ntriples_tokens.specs.declared.values.Parsed.{Parsed}
-use Rattle.ntriples_tokens.specs.declared.values.Parsed.TheVariants.{At, Bad as NoToken}
+use Rattle.ntriples_tokens.specs.declared.values.Token.{Token as Ends}
 use Rattle.ntriples_lines.specs.declared.terms.FoundTerm.{FoundTerm}
-use Rattle.ntriples_lines.specs.declared.terms.FoundTerm.TheVariants.{Of, Bad as NoTerm}
+use Rattle.ntriples_lines.specs.declared.LineTerms.{LineTerms}
 use Rattle.ntriples_lines.specs.declared.Said.{Said}
-use Rattle.ntriples_lines.specs.declared.Said.TheVariants.{Nothing, Triple, Bad as BadLine}
+use Rattle.ntriples_lines.specs.declared.Said.TheVariants.{Nothing, Triple}
 
 -- how many bytes xsd:string has, the datatype of a plain literal; and with the zero byte before it: no character of the line brings them
 abbrev pub xsd_width : ℕ
@@ -34,45 +34,57 @@ term_behind front none = none
 term_behind front (some f) = some (term_output f.found.kind (front ++ f.found.bytes) f.rest)
 
 -- the answer of a function that reads a term
-abbrev pub term_output_of : FoundTerm → List ℕ → List ℕ → Option TermOutput
-term_output_of (Of k next used) chars out = some (term_output k (take used out) (drop next chars))
-term_output_of NoTerm chars out = none
+abbrev pub term_output_of : Maybe FoundTerm → List ℕ → List ℕ → Option TermOutput
+term_output_of (Some t) chars out = some (term_output t.kind (take t.end out) (drop t.next chars))
+term_output_of None chars out = none
 
 -- a term of a kind, from a token
-abbrev pub as_found : ℕ → Parsed → FoundTerm
-as_found k (At next used) = Of k next used
-as_found k NoToken = NoTerm
+abbrev pub as_found : ℕ → Maybe Ends → Maybe FoundTerm
+as_found k (Some t) = Some (record { kind = k; next = t.next; end = t.end })
+as_found k None = None
 
 -- where a term ends
-abbrev pub TermBounded : ℕ → List ℕ → ℕ → ℕ → FoundTerm → Type 0
-TermBounded more chars at used (Of k next n) = (at ≤ next) × (next ≤ length chars) × (used ≤ n) × (n + 4 * at ≤ used + 4 * next + more)
-TermBounded more chars at used NoTerm = Unit {0}
+abbrev pub TermBounded : ℕ → List ℕ → ℕ → ℕ → Maybe FoundTerm → Type 0
+TermBounded more chars at used (Some t) =
+    (at ≤ t.next) × (t.next ≤ length chars) × (used ≤ t.end) × (t.end + 4 * at ≤ used + 4 * t.next + more)
+TermBounded more chars at used None = Unit {0}
 
 -- A TERM READ from place `at` on: o, with its bytes behind the first `used` of the buffer
-pub record Finds (more : ℕ) (chars : List ℕ) (at : ℕ) (old : List ℕ) (used : ℕ) (o : Option Found) (r : FoundTerm) (new : List ℕ) : Type 0
-  where
-    pub output_is : term_output_of r chars new ≡ term_behind (take used old) o
-    pub bounded : TermBounded more chars at used r
-    pub same : length new ≡ length old
+pub record Finds (more : ℕ) (chars : List ℕ) (at : ℕ) (old : List ℕ) (used : ℕ) (o : Option Found) (r : Maybe FoundTerm)
+    (new : List ℕ) : Type 0 where
+  pub output_is : term_output_of r chars new ≡ term_behind (take used old) o
+  pub bounded : TermBounded more chars at used r
+  pub same : length new ≡ length old
 
 -- a dot, and nothing but a comment behind it
 unfoldable pub finish : List ℕ → Bool
 finish [] = false
 finish (c ∷ cs) = eqb c 46 && ended (ws cs)
 
--- what a line says, by the kinds of subject and object and the places where the three terms' bytes end
-abbrev pub said_of : Said → List ℕ → Line
-said_of Nothing out = nothing
-said_of (Triple k a b l c) out = says (terms (term k (take a out)) (term 1 (part out a b)) (term l (part out b c)))
-said_of BadLine out = bad
+-- A LINE'S TERMS, their bytes one behind the other
+pub record Ordered (t : LineTerms) (out : List ℕ) : Type 0 where
+  pub s_p : t.subject_end ≤ t.predicate_end
+  pub p_o : t.predicate_end ≤ t.object_end
+  pub within : t.object_end ≤ length out
 
-abbrev pub SaidWithin : Said → List ℕ → Type 0
-SaidWithin Nothing out = Unit {0}
-SaidWithin (Triple k a b l c) out = (a ≤ b) × (b ≤ c) × (c ≤ length out)
-SaidWithin BadLine out = Unit {0}
+abbrev pub terms_at : LineTerms → List ℕ → Terms
+terms_at t out =
+    terms (term t.subject_kind (take t.subject_end out)) (term 1 (part out t.subject_end t.predicate_end))
+    (term t.object_kind (part out t.predicate_end t.object_end))
+
+-- what a line says
+abbrev pub said_of : Maybe Said → List ℕ → Line
+said_of (Some Nothing) out = nothing
+said_of (Some (Triple t)) out = says (terms_at t out)
+said_of None out = bad
+
+abbrev pub SaidWithin : Maybe Said → List ℕ → Type 0
+SaidWithin (Some Nothing) out = Unit {0}
+SaidWithin (Some (Triple t)) out = Ordered t out
+SaidWithin None out = Unit {0}
 
 -- A LINE READ
-pub record Says (l : Line) (r : Said) (out : List ℕ) : Type 0 where
+pub record Says (l : Line) (r : Maybe Said) (out : List ℕ) : Type 0 where
   pub said_is : said_of r out ≡ l
   pub ordered : SaidWithin r out
 

@@ -5,15 +5,14 @@ ghost use Rattle.ntriples_tokens.specs.Promises.{Room, Parses};
 ghost use Rattle.ntriples_lines.specs.Promises.{xsd_width, plain_width, as_found, Finds};
 
 use dictionary_layout::bytes::copy_at;
-use ntriples_tokens::{
-    Parsed, blank_node_label, iriref, langtag, skip_space, string_literal_quote,
-};
+use ntriples_tokens::{Token, blank_node_label, iriref, langtag, skip_space, string_literal_quote};
 
-// A term's kind, the place after it, and the place after its bytes.
+// A term that was read: its kind, the place after it, and the place after its bytes.
 #[derive(Clone, Copy)]
-pub enum FoundTerm {
-    Of(u32, usize, usize),
-    Bad,
+pub struct FoundTerm {
+    pub kind: u32,
+    pub next: usize,
+    pub end: usize,
 }
 
 // The datatype of a plain literal, and its length.
@@ -22,108 +21,101 @@ pub const XSD_WIDTH: usize = 39;
 pub const XSD_STRING: [u8; XSD_WIDTH] = *b"http://www.w3.org/2001/XMLSchema#string";
 
 // The datatype after the first '^'.
-fn typed(chars: &[u32], at: usize, out: &mut [u8], used: usize) -> Parsed
+fn typed(chars: &[u32], at: usize, out: &mut [u8], used: usize) -> Option<Token>
     requires { Room 0 chars.now at out.old used }
     ensures { Parses 0 chars.now at out.old used (typed (drop at chars.now)) result
         out.new }
 {
-    if chars.len() == at {
-        return Parsed::Bad;
-    }
-    if chars[at] != 94 {
-        return Parsed::Bad;
+    if at == chars.len() || chars[at] != '^' as u32 {
+        return None;
     }
     let next = skip_space(chars, at + 1);
     iriref(chars, next, out, used)
 }
 
-// What follows a literal's text.
-fn suffix(chars: &[u32], at: usize, out: &mut [u8], used: usize) -> Parsed
+// What follows a literal's text: '^' begins a datatype, '@' a language tag.
+fn suffix(chars: &[u32], at: usize, out: &mut [u8], used: usize) -> Option<Token>
     requires { Room xsd_width chars.now at out.old used }
     ensures { Parses xsd_width chars.now at out.old used (suffix (drop at chars.now)) result
         out.new }
 {
     if at < chars.len() {
         let c = chars[at];
-        if c == 94 {
+        if c == '^' as u32 {
             return typed(chars, at + 1, out, used);
         }
-        if c == 64 {
+        if c == '@' as u32 {
             return langtag(chars, at + 1, out, used);
         }
     }
     copy_at(out, used, &XSD_STRING);
-    Parsed::At(at, used + XSD_WIDTH)
+    Some(Token {
+        next: at,
+        end: used + XSD_WIDTH,
+    })
 }
 
 // A term of a kind, from a token.
-fn as_term(kind: u32, token: Parsed) -> FoundTerm
+fn as_term(kind: u32, token: Option<Token>) -> Option<FoundTerm>
     ensures { result ≡ as_found kind token }
 {
-    let Parsed::At(next, n) = token else {
-        return FoundTerm::Bad;
-    };
-    FoundTerm::Of(kind, next, n)
+    let Token { next, end } = token?;
+    Some(FoundTerm { kind, next, end })
 }
 
-pub fn named(chars: &[u32], at: usize, out: &mut [u8], used: usize) -> FoundTerm
+pub fn named(chars: &[u32], at: usize, out: &mut [u8], used: usize) -> Option<FoundTerm>
     requires { Room 0 chars.now at out.old used }
     ensures { Finds 0 chars.now at out.old used (named (drop at chars.now)) result
         out.new }
 {
-    let token = iriref(chars, at, out, used);
-    as_term(1, token)
+    as_term(1, iriref(chars, at, out, used))
 }
 
-fn blank_node(chars: &[u32], at: usize, out: &mut [u8], used: usize) -> FoundTerm
+fn blank_node(chars: &[u32], at: usize, out: &mut [u8], used: usize) -> Option<FoundTerm>
     requires { Room 0 chars.now at out.old used }
     ensures { Finds 0 chars.now at out.old used (blank_node (drop at chars.now)) result
         out.new }
 {
-    let token = blank_node_label(chars, at, out, used);
-    as_term(2, token)
+    as_term(2, blank_node_label(chars, at, out, used))
 }
 
 // A literal: its text, a zero byte, then its language tag or datatype.
-fn literal(chars: &[u32], at: usize, out: &mut [u8], used: usize) -> FoundTerm
+fn literal(chars: &[u32], at: usize, out: &mut [u8], used: usize) -> Option<FoundTerm>
     requires { Room plain_width chars.now at out.old used }
     ensures { Finds plain_width chars.now at out.old used (literal (drop at chars.now)) result
         out.new }
 {
-    let Parsed::At(after, n) = string_literal_quote(chars, at, &mut *out, used) else {
-        return FoundTerm::Bad;
-    };
-    out[n] = 0;
-    let next = skip_space(chars, after);
-    let token = suffix(chars, next, out, n + 1);
-    as_term(3, token)
+    let text = string_literal_quote(chars, at, &mut *out, used)?;
+    out[text.end] = 0;
+    let next = skip_space(chars, text.next);
+    as_term(3, suffix(chars, next, out, text.end + 1))
 }
 
 // An IRI begins with '<', a blank node with '_'.
-pub fn subject(chars: &[u32], at: usize, out: &mut [u8], used: usize) -> FoundTerm
+pub fn subject(chars: &[u32], at: usize, out: &mut [u8], used: usize) -> Option<FoundTerm>
     requires { Room 0 chars.now at out.old used }
     ensures { Finds 0 chars.now at out.old used (subject (drop at chars.now)) result
         out.new }
 {
-    if chars.len() == at {
-        return FoundTerm::Bad;
+    if at == chars.len() {
+        return None;
     }
-    if chars[at] == 60 {
+    if chars[at] == '<' as u32 {
         return named(chars, at, out, used);
     }
     blank_node(chars, at, out, used)
 }
 
 // A literal begins with '"'.
-pub fn object(chars: &[u32], at: usize, out: &mut [u8], used: usize) -> FoundTerm
+pub fn object(chars: &[u32], at: usize, out: &mut [u8], used: usize) -> Option<FoundTerm>
     requires { Room plain_width chars.now at out.old used }
     ensures { Finds plain_width chars.now at out.old used (object (drop at chars.now)) result
         out.new }
 {
-    if chars.len() == at {
-        return FoundTerm::Bad;
+    if at == chars.len() {
+        return None;
     }
-    if chars[at] == 34 {
+    if chars[at] == '"' as u32 {
         return literal(chars, at, out, used);
     }
     subject(chars, at, out, used)

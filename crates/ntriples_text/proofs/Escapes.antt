@@ -1,43 +1,27 @@
 -- A text, escaped: its characters one by one, its length, and the loop that writes it. Assumes nothing.
-use mathlib.Core.Path.{◌≡◌, refl, sym, ap, ◌∙◌}
+use mathlib.Core.Path.{◌≡◌, sym, ap, ◌∙◌}
 use mathlib.Core.List.{List, [], ◌∷◌, ◌++◌, append_assoc, append-nil}
 use Prim.Native.Nat.{ℕ, suc, ◌+◌, ◌-◌, ◌*◌, ◌≤◌, ◌<◌}
 use native.Mathlib.Numerals.{add-one}
 use native.Mathlib.Omega.{arith}
 use lib.Dec.{eqb}
-use lib.ListN.{length, get_or, take, drop, set, length-append, drop_of_length-le}
+use lib.ListN.{length, get_or, take, drop, length-append, drop_of_length-le}
 use lib.Seq.{drop-cons}
-use borrow.Author.Tests.{eq-eqb, ne_eqb}
+use Rattle.std.specs.Prelude.{Option as Maybe, Some, None, is_some, true, false}
 use Rattle.ntriples.proofs.Tests.{if_ind}
 use Rattle.ntriples_utf8.specs.Promises.{Wrote}
 use Rattle.ntriples_canonical.specs.Writing.{escaped, escape_all}
 use Rattle.ntriples_text.specs.Promises.{escape_by}
-use Rattle.ntriples_text.proofs.Stores.{stored, stored_two}
 
--- A CHARACTER, by the letter of its escape: written as it is,
-pub as_it_is : (e b : ℕ) → escape_by e b ≡ escaped b → e ≡ 0 → escaped b ≡ b ∷ []
-as_it_is e b h z = sym h ∙ rw (eq-eqb e 0 z) refl
+-- A CHARACTER, by the letter of its escape: in two,
+pub in_two : (r : Maybe ℕ) (b : ℕ) → escape_by r b ≡ escaped b → is_some r ≡ true → length (escaped b) ≡ 2
+in_two None b e h = cc
+in_two (Some l) b e h = sym (ap length e)
 
--- or in two
-pub in_two : (e b : ℕ) → escape_by e b ≡ escaped b → (e ≡ 0 → ⊥) → escaped b ≡ 92 ∷ e ∷ []
-in_two e b h n = sym h ∙ rw (ne_eqb e 0 n) refl
-
--- room for it, and it is written
-module _ (e b : ℕ) (h : escape_by e b ≡ escaped b) (page : List ℕ) (at : ℕ) (room : at + length (escaped b) ≤ length page)
-  where
-    -- as it is,
-    pub one_room : e ≡ 0 → at < length page
-    one_room z = omega (arith, ap length (as_it_is e b h z))
-
-    pub put_one : e ≡ 0 → Wrote page at (escaped b) (set page at b) (at + 1)
-    put_one z = rw (as_it_is e b h z) (stored page at b (one_room z))
-
-    -- or in two
-    pub two_room : (e ≡ 0 → ⊥) → at + 1 < length page
-    two_room n = omega (arith, ap length (in_two e b h n))
-
-    pub put_two : (e ≡ 0 → ⊥) → Wrote page at (escaped b) (set (set page at 92) (at + 1) e) (at + 2)
-    put_two n = rw (in_two e b h n) (stored_two page at 92 e (two_room n))
+-- or as it is
+pub as_it_is : (r : Maybe ℕ) (b : ℕ) → escape_by r b ≡ escaped b → is_some r ≡ false → length (escaped b) ≡ 1
+as_it_is None b e h = sym (ap length e)
+as_it_is (Some l) b e h = cc
 
 -- two at most for each
 escaped_few : (c : ℕ) → length (escaped c) ≤ 2
@@ -77,10 +61,6 @@ pub record Measuring (text : List ℕ) (n i : ℕ) : Type 0 where
   pub few : n ≤ length text + i
   pub within : i ≤ length text
 
--- no character was read
-pub measuring_start : (text : List ℕ) → Measuring text (length text) 0
-measuring_start text = record { is = omega arith; few = omega arith; within = omega arith }
-
 module _ {text : List ℕ} {n i : ℕ} (m : Measuring text n i) where
   -- one character more
   pub measuring_step : {k : ℕ} → i < length text → n + length (escaped (get_or text i 0)) ≡ k + 1 → Measuring text k (i + 1)
@@ -100,10 +80,6 @@ pub record Escaping (text old : List ℕ) (at : ℕ) (page : List ℕ) (n i : �
   pub end : n + length (escape_all (drop i text)) ≡ at + length (escape_all text)
   pub same : length page ≡ length old
   pub within : i ≤ length text
-
--- nothing
-pub escaping_start : (text old : List ℕ) (at : ℕ) → Escaping text old at old at 0
-escaping_start text old at = record { front = refl; end = refl; same = refl; within = omega arith }
 
 module _ {text old : List ℕ} {at : ℕ} {page : List ℕ} {n i : ℕ} (p : Escaping text old at page n i) where
   -- there is room for the next

@@ -1,14 +1,14 @@
 -- What follows a literal's text: the colon, and the text by its tests. Assumes nothing.
-use mathlib.Core.Path.{◌≡◌, refl, sym, ap, ◌∙◌}
-use mathlib.Core.Bool.{true, false}
+use mathlib.Core.Path.{◌≡◌, refl, sym, ap}
+use mathlib.Core.Bool.{Bool, true, false, ◌||◌}
 use mathlib.Core.List.{List, [], ◌∷◌}
-use Prim.Native.Nat.{ℕ, suc, ◌+◌, ◌≤◌, ◌<◌}
-use native.Mathlib.Numerals.{add-one}
+use mathlib.Core.Logic.{◌⊎◌, inl, inr}
+use Prim.Native.Nat.{ℕ, ◌+◌, ◌≤◌}
 use native.Mathlib.Omega.{arith}
 use lib.Dec.{eqb}
-use lib.ListN.{length, get_or, drop, set, drop_of_length-le}
-use lib.Seq.{drop-cons}
-use borrow.Author.Tests.{eq-eqb, ne_eqb}
+use lib.ListN.{length, set}
+use Rattle.std.specs.List.{list_any}
+use Rattle.std.proofs.lemmas.Bool.{eq-eqb, ne_eqb, cases_eq}
 use Rattle.common.specs.Triples.{if}
 use Rattle.dictionary_layout.specs.Dictionary.{same_row}
 use Rattle.ntriples.specs.Characters.{one_of}
@@ -20,34 +20,18 @@ use Rattle.ntriples_canonical.specs.Writing.{suffix_text}
 use Rattle.ntriples_text.specs.Promises.{in_angles}
 use Rattle.ntriples_text.proofs.Stores.{behind_one, behind_two, angles_length}
 
--- THE LOOP that looks for a colon: there is none before place i
-pub record Looking (d : List ℕ) (i : ℕ) : Type 0 where
-  pub is : one_of d 58 ≡ one_of (drop i d) 58
-  pub within : i ≤ length d
+-- the colon, as the search of the bytes finds it
+first_or : (a b : ℕ) (x : Bool) → (eqb a b || x) ≡ if (eqb b a) (λ _. true) (λ _. x)
+first_or a b x = go (cases_eq a b)
+  where
+    go : (a ≡ b) ⊎ (a ≡ b → ⊥) → (eqb a b || x) ≡ if (eqb b a) (λ _. true) (λ _. x)
+    go (inl e) = rw (eq-eqb a b e, eq-eqb b a (sym e)) refl
+    go (inr n) = rw (ne_eqb a b n, ne_eqb b a (λ e. n (sym e))) refl
 
--- no byte was read
-pub looking_start : (d : List ℕ) → Looking d 0
-looking_start d = record { is = refl; within = omega arith }
-
-module _ {d : List ℕ} {i : ℕ} (l : Looking d i) where
-  -- the byte at i, and what is left after it
-  next : i < length d → one_of d 58 ≡ if (eqb 58 (get_or d i 0)) (λ _. true) (λ _. one_of (drop (suc i) d) 58)
-  unfolding one_of
-  next h = l.is ∙ rw (drop-cons d i 0 h) refl
-
-  -- a colon,
-  pub looking_found : i < length d → get_or d i 0 ≡ 58 → true ≡ one_of d 58
-  looking_found h e = sym (next h ∙ rw (eq-eqb 58 (get_or d i 0) (sym e)) refl)
-
-  -- another byte,
-  pub looking_step : i < length d → (get_or d i 0 ≡ 58 → ⊥) → Looking d (i + 1)
-  looking_step h n =
-      rw (add-one i) (record { is = next h ∙ rw (ne_eqb 58 (get_or d i 0) (λ e. n (sym e))) refl; within = h })
-
-  -- and no byte is left
-  pub looking_end : length d ≤ i → false ≡ one_of d 58
-  unfolding one_of
-  looking_end h = sym (l.is ∙ ap (λ r. one_of r 58) (drop_of_length-le d h))
+pub colon_found : (d : List ℕ) → list_any (λ b. eqb b 58) d ≡ one_of d 58
+unfolding one_of
+colon_found [] = refl
+colon_found (b ∷ bs) = rw (colon_found bs) (first_or b 58 (one_of bs 58))
 
 -- BY THE TESTS: xsd:string,
 module _ (d : List ℕ) where

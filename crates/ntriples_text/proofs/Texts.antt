@@ -4,32 +4,29 @@ use mathlib.Core.Logic.{◌⊎◌, inl, inr}
 use mathlib.Core.Bool.{Bool, true, false}
 use mathlib.Core.Option.{Option, some, none}
 use mathlib.Core.List.{List, ◌∷◌}
-use Prim.Native.Nat.{ℕ, suc, ◌+◌, ◌-◌, ◌*◌, ◌≤◌, ◌<◌}
+use Prim.Native.Nat.{ℕ, ◌+◌, ◌-◌, ◌*◌, ◌≤◌, ◌<◌}
 use native.Mathlib.Omega.{arith}
+use native.Mathlib.Numerals.{add-one}
+use Rattle.std.specs.Bool.{then_some}
+use Rattle.std.specs.Prelude.{Option as Maybe, Some, None, IsSome}
 use lib.Dec.{T, eqb, eqb→eq, eqb_refl}
 use lib.ListN.{length, take, drop, set, length-append, length-drop, length-set}
 use lib.Seq.{take_all, length-take-le}
-use Rattle.dictionary_layout.specs.Terms.{Term, term}
+use Rattle.dictionary_layout.specs.Terms.{term}
 use Rattle.dictionary_layout.proofs.Choice.{decide_bool}
 use Rattle.ntriples.specs.Utf8.{on, decode}
 use Rattle.ntriples.specs.Characters.{iri}
 use Rattle.ntriples.specs.Grammar.{Token, token, when, label}
 use Rattle.ntriples.specs.Nodes.{whole}
 use Rattle.ntriples.proofs.Tests.{no_some, same_some, when→}
-use Rattle.ntriples_utf8.specs.Promises.{decoded_of, Decodes, Wrote}
-use Rattle.ntriples_utf8.specs.declared.Decoded.{Decoded}
-use Rattle.ntriples_utf8.specs.declared.Decoded.TheVariants.{Bad as NotUtf8}
+use Rattle.ntriples_utf8.specs.Promises.{Wrote}
 use Rattle.ntriples_tokens.proofs.Writing.{wrote_then}
 use Rattle.ntriples_canonical.specs.Writing.{last_zero, escape_all, suffix_text, literal_text, term_text}
 use Rattle.ntriples_canonical.proofs.Bytes.{named_bytes, blank_bytes, literal_bytes, other_kind, text_decodes}
-use Rattle.ntriples_text.specs.Promises.{or_nothing, text_length, TextFits, in_angles, ZeroEnds, no_zero, zero_at, is_suffix}
+use Rattle.ntriples_text.specs.Promises.{or_nothing, text_size, TextFits, in_angles, LastZero, no_zero, zero_at, is_suffix}
 use Rattle.ntriples_text.proofs.Stores.{behind_one, behind_two}
 use Rattle.ntriples_text.proofs.Escapes.{escape_few}
 use Rattle.ntriples_text.proofs.Suffixes.{suffix_few}
-
--- the bytes are not UTF-8
-pub undecoded : {bytes : List ℕ} {r : Decoded} {chars : List ℕ} → r ≡ NotUtf8 → Decodes bytes r chars → decode bytes ≡ none
-undecoded {bytes} {r} {chars} e d = sym d.chars_are ∙ ap (λ (x : Decoded). decoded_of x chars) e
 
 -- what the code lends from place z on, which is all that is there
 abbrev pub rest : List ℕ → ℕ → List ℕ
@@ -38,31 +35,28 @@ rest l z = take (length l - z) (drop z l)
 rest_of : (l : List ℕ) (z : ℕ) → rest l z ≡ drop z l
 rest_of l z = take_all (length l - z) (drop z l) (simp length-drop (omega arith))
 
--- A LITERAL'S BYTES, split at the last zero: z is the place after it
+-- A LITERAL'S BYTES, split at the last zero, which is at z
 pub record Split (bytes : List ℕ) (z : ℕ) : Type 0 where
-  pub is : last_zero bytes ≡ some (token (take (z - 1) bytes) (drop z bytes))
-  pub after : 0 < z
-  pub within : z ≤ length bytes
+  pub is : last_zero bytes ≡ some (token (take z bytes) (drop (z + 1) bytes))
+  pub within : z < length bytes
 
--- where there is one
-pub split : {bytes : List ℕ} {z : ℕ} → ZeroEnds bytes z → (z ≡ 0 → ⊥) → Split bytes z
-split (no_zero e) n = absurd (n refl)
-split {bytes} (zero_at z h e) n =
-    let s : suc z - 1 ≡ z = omega arith in
-    record { is = e ∙ ap (λ k. some (token (take k bytes) (drop (suc z) bytes))) (sym s); after = omega arith; within = h }
+pub split : {bytes : List ℕ} {r : Maybe ℕ} {z : ℕ} → r ≡ Some z → LastZero bytes r → Split bytes z
+split e (no_zero n) = cc
+split {bytes} {r} {z} e (zero_at y h i) =
+    let same : y ≡ z = cc in
+    rw (← same) (record { is = rw (add-one y) i; within = h })
 
 -- its parts' lengths
 module _ {bytes : List ℕ} {z : ℕ} (s : Split bytes z) where
-  pub front_length : z - 1 ≡ length (take (z - 1) bytes)
-  front_length = let w = s.within in sym (length-take-le (z - 1) bytes (omega arith))
+  pub front_length : z ≡ length (take z bytes)
+  front_length = let w = s.within in sym (length-take-le z bytes (omega arith))
 
-  pub rest_length : length (rest bytes z) ≡ length bytes - z
-  rest_length = length-take-le (length bytes - z) (drop z bytes) (simp length-drop (omega arith))
+  pub rest_length : length (rest bytes (z + 1)) ≡ length bytes - (z + 1)
+  rest_length = length-take-le (length bytes - (z + 1)) (drop (z + 1) bytes) (simp length-drop (omega arith))
 
 -- there is none
-pub unsplit : {bytes : List ℕ} {z : ℕ} → ZeroEnds bytes z → z ≡ 0 → last_zero bytes ≡ none
-unsplit (no_zero e) n = e
-unsplit (zero_at z h e) n = absurd (omega arith)
+pub unsplit : {bytes : List ℕ} → LastZero bytes None → last_zero bytes ≡ none
+unsplit (no_zero e) = e
 
 -- the text of what is split, under its test
 abbrev if_suffix : Token → Option (List ℕ)
@@ -74,10 +68,10 @@ module _ (bytes cs : List ℕ) (d : decode bytes ≡ some cs) where
   literal_none e = literal_bytes bytes cs d ∙ ap (λ (o : Option Token). on o if_suffix) e
 
   -- where there is one
-  pub literal_is : {z : ℕ} {b : Bool} → Split bytes z → b ≡ is_suffix (drop z bytes)
-      → term_text (term 3 bytes) ≡ when b (λ _. some (literal_text (take (z - 1) bytes) (drop z bytes)))
+  pub literal_is : {z : ℕ} {b : Bool} → Split bytes z → b ≡ is_suffix (drop (z + 1) bytes)
+      → term_text (term 3 bytes) ≡ when b (λ _. some (literal_text (take z bytes) (drop (z + 1) bytes)))
   literal_is {z} s e =
-      let x = some (literal_text (take (z - 1) bytes) (drop z bytes)) in
+      let x = some (literal_text (take z bytes) (drop (z + 1) bytes)) in
       literal_bytes bytes cs d
       ∙ (ap (λ (o : Option Token). on o if_suffix) s.is ∙ ap (λ (b : Bool). when b (λ _. x)) (sym e))
 
@@ -86,37 +80,38 @@ literal_size : (t d : List ℕ) → length (literal_text t d) ≡ length (escape
 unfolding literal_text
 literal_size t d = omega (arith, length-append (escape_all t) (34 ∷ suffix_text d))
 
--- the length of a term without a text,
-pub measured_none : (t : Term) → term_text t ≡ none → 0 ≡ text_length t
-measured_none t e = ap (λ (o : Option (List ℕ)). length (or_nothing o)) (sym e)
+-- the length of a text that is known
+pub measured : {o : Option (List ℕ)} {x : List ℕ} {n : ℕ} → o ≡ some x → n ≡ length x → Some n ≡ text_size o
+measured e l = rw (l, e) refl
 
--- and of one with a text
-pub measured : (t : Term) {x : List ℕ} {n : ℕ} → term_text t ≡ some x → n ≡ length x → n ≡ text_length t
-measured t e l = l ∙ ap (λ (o : Option (List ℕ)). length (or_nothing o)) (sym e)
+-- of one that is there where a test holds
+pub measured_if : {o : Option (List ℕ)} {n : ℕ} {r : Maybe ℕ} (b : Bool) (x : List ℕ) → o ≡ when b (λ _. some x) → r ≡ then_some b n
+    → n ≡ length x → r ≡ text_size o
+measured_if true x e f l = f ∙ measured e l
+measured_if false x e f l = f ∙ ap text_size (sym e)
 
 -- a literal measured in parts
-module _ {bytes : List ℕ} {z t d : ℕ} (s : Split bytes z) (e : t ≡ length (escape_all (take (z - 1) bytes)))
-    (f : d ≡ length (suffix_text (rest bytes z))) where
+module _ {bytes : List ℕ} {z t d : ℕ} (s : Split bytes z) (e : t ≡ length (escape_all (take z bytes)))
+    (f : d ≡ length (suffix_text (rest bytes (z + 1)))) where
   -- two bytes at most for each of the term's, and four more
   pub literal_few : t + d ≤ 2 * length bytes + 4
   literal_few =
       let w = s.within in
-      let a = s.after in
-      omega (arith, front_length s, rest_length s, escape_few (take (z - 1) bytes), suffix_few (rest bytes z))
+      omega (arith, front_length s, rest_length s, escape_few (take z bytes), suffix_few (rest bytes (z + 1)))
 
   -- where what follows the text is a datatype or a language tag
-  pub literal_measured : {cs : List ℕ} {b : Bool} → decode bytes ≡ some cs → b ≡ is_suffix (rest bytes z) → b ≡ true
-      → t + d + 2 ≡ text_length (term 3 bytes)
+  pub literal_measured : {cs : List ℕ} {b : Bool} → decode bytes ≡ some cs → b ≡ is_suffix (rest bytes (z + 1)) → b ≡ true
+      → Some (t + d + 2) ≡ text_size (term_text (term 3 bytes))
   literal_measured {cs} u q y =
-      let r = rest_of bytes z in
-      measured (term 3 bytes) (literal_is bytes cs u s (sym y ∙ (q ∙ ap is_suffix r)))
-      (omega (arith, literal_size (take (z - 1) bytes) (drop z bytes), ap (λ l. length (suffix_text l)) r))
+      let r = rest_of bytes (z + 1) in
+      measured (literal_is bytes cs u s (sym y ∙ (q ∙ ap is_suffix r)))
+      (omega (arith, literal_size (take z bytes) (drop (z + 1) bytes), ap (λ l. length (suffix_text l)) r))
 
 -- and where it is neither
-pub literal_unmeasured : {bytes cs : List ℕ} {z : ℕ} {b : Bool} → Split bytes z → decode bytes ≡ some cs → b ≡ is_suffix (rest bytes z)
-    → b ≡ false → 0 ≡ text_length (term 3 bytes)
+pub literal_unmeasured : {bytes cs : List ℕ} {z : ℕ} {b : Bool} → Split bytes z → decode bytes ≡ some cs
+    → b ≡ is_suffix (rest bytes (z + 1)) → b ≡ false → None ≡ text_size (term_text (term 3 bytes))
 literal_unmeasured {bytes} {cs} {z} s u q y =
-    measured_none (term 3 bytes) (literal_is bytes cs u s (sym y ∙ (q ∙ ap is_suffix (rest_of bytes z))))
+    ap text_size (sym (literal_is bytes cs u s (sym y ∙ (q ∙ ap is_suffix (rest_of bytes (z + 1))))))
 
 -- A NAMED NODE,
 pub named_is : (k : ℕ) (bytes cs : List ℕ) {b : Bool} → k ≡ 1 → decode bytes ≡ some cs → b ≡ iri bytes
@@ -178,39 +173,40 @@ module _ (k : ℕ) (bytes : List ℕ) {at : ℕ} {page : List ℕ} (f : TextFits
           let other : k ≡ 3 → ⊥ = λ e. n (subst (λ m. T (eqb k m)) e (eqb_refl k)) in
           no_some (sym (other_kind (term k bytes) a b other) ∙ f.is)
 
--- of a literal
-module _ {bytes : List ℕ} {z at : ℕ} {page : List ℕ} (f : TextFits (term_text (term 3 bytes)) at page) (h : ZeroEnds bytes z) where
-  -- whose last zero is there
-  pub literal_split : Split bytes z
-  literal_split =
-      let (cs, d) = text_decodes (term 3 bytes) f.text f.is in
-      split h (λ e. no_some (sym (literal_none bytes cs d (unsplit h e)) ∙ f.is))
+-- of a literal, one of whose bytes is a zero
+pub literal_zero : {bytes : List ℕ} {r : Maybe ℕ} {at : ℕ} {page : List ℕ} → TextFits (term_text (term 3 bytes)) at page → LastZero bytes r
+    → IsSome r
+literal_zero {bytes} f (no_zero e) =
+    let (cs, d) = text_decodes (term 3 bytes) f.text f.is in
+    no_some (sym (literal_none bytes cs d e) ∙ f.is)
+literal_zero f (zero_at z h e) = refl
 
+module _ {bytes : List ℕ} {z at : ℕ} {page : List ℕ} (f : TextFits (term_text (term 3 bytes)) at page) (s : Split bytes z) where
   -- its text
-  literal_fits : FitsAs (term_text (term 3 bytes)) (literal_text (take (z - 1) bytes) (drop z bytes)) at page
+  literal_fits : FitsAs (term_text (term 3 bytes)) (literal_text (take z bytes) (drop (z + 1) bytes)) at page
   literal_fits =
       let (cs, d) = text_decodes (term 3 bytes) f.text f.is in
-      fits_as (is_suffix (drop z bytes)) (literal_is bytes cs d literal_split refl) f
+      fits_as (is_suffix (drop (z + 1) bytes)) (literal_is bytes cs d s refl) f
 
   -- with a quotation mark on both sides,
-  pub literal_room : at + 2 + length (escape_all (take (z - 1) bytes)) + length (suffix_text (rest bytes z)) ≤ length page
+  pub literal_room : at + 2 + length (escape_all (take z bytes)) + length (suffix_text (rest bytes (z + 1))) ≤ length page
   literal_room =
       let r = literal_fits.room in
-      omega (arith, literal_size (take (z - 1) bytes) (drop z bytes), ap (λ l. length (suffix_text l)) (rest_of bytes z))
+      omega (arith, literal_size (take z bytes) (drop (z + 1) bytes), ap (λ l. length (suffix_text l)) (rest_of bytes (z + 1)))
 
-  module _ {mid : List ℕ} {n : ℕ} (w : Wrote (set page at 34) (at + 1) (escape_all (take (z - 1) bytes)) mid n) where
+  module _ {mid : List ℕ} {n : ℕ} (w : Wrote (set page at 34) (at + 1) (escape_all (take z bytes)) mid n) where
     -- the room for what follows,
-    pub suffix_room : n + 1 + length (suffix_text (rest bytes z)) ≤ length mid
+    pub suffix_room : n + 1 + length (suffix_text (rest bytes (z + 1))) ≤ length mid
     suffix_room =
         let e = w.end in
         let s = w.same in
         omega (arith, literal_room, length-set page at 34)
 
     -- and it is written
-    pub put_quoted : {new : List ℕ} {r : ℕ} → Wrote (set mid n 34) (n + 1) (suffix_text (rest bytes z)) new r
+    pub put_quoted : {new : List ℕ} {r : ℕ} → Wrote (set mid n 34) (n + 1) (suffix_text (rest bytes (z + 1))) new r
         → Wrote page at (or_nothing (term_text (term 3 bytes))) new r
     unfolding literal_text
     put_quoted {new} {r} v =
-        let u = subst (λ l. Wrote (set mid n 34) (n + 1) (suffix_text l) new r) (rest_of bytes z) v in
+        let u = subst (λ l. Wrote (set mid n 34) (n + 1) (suffix_text l) new r) (rest_of bytes (z + 1)) v in
         rw literal_fits.text_is
         (behind_one (omega (arith, literal_room)) (wrote_then w (behind_one (omega (arith, suffix_room)) u)))

@@ -7,36 +7,24 @@ ghost use Rattle.std.specs.Prelude.{◌≡◌};
 ghost use Rattle.dictionary_layout.specs.Terms.{term};
 ghost use Rattle.ntriples_utf8.specs.Promises.{Wrote};
 ghost use Rattle.ntriples_canonical.specs.Writing.{term_text};
-ghost use Rattle.ntriples_text.specs.Promises.{or_nothing, text_length, Measurable, TextFits};
+ghost use Rattle.ntriples_text.specs.Promises.{or_nothing, text_size, Measurable, TextFits};
 
 use crate::literal::{literal_length, put_iri, put_literal, put_part};
 use ntriples_tokens::{iri, whole_label};
-use ntriples_utf8::{Decoded, decode};
+use ntriples_utf8::decode;
 
-// How many bytes the text of a term has, 0 where reading could never have put the term.
-pub fn text_length(kind: u32, bytes: &[u8], chars: &mut [u32]) -> usize
+// How many bytes the text of a term has, none where reading could never have put the term. Kind 1 is an IRI, 2 a blank node, 3 a literal.
+pub fn text_length(kind: u32, bytes: &[u8], chars: &mut [u32]) -> Option<usize>
     requires { Measurable bytes.now chars.old }
-    ensures { result ≡ text_length (term kind bytes.now) }
+    ensures { result ≡ text_size (term_text (term kind bytes.now)) }
 {
-    let Decoded::Chars(n) = decode(bytes, &mut *chars) else {
-        return 0;
-    };
-    if kind == 1 {
-        if iri(bytes) {
-            return bytes.len() + 2;
-        }
-        return 0;
+    let n = decode(bytes, &mut *chars)?;
+    match kind {
+        1 => iri(bytes).then_some(bytes.len() + 2),
+        2 => whole_label(&chars[..n]).then_some(bytes.len() + 2),
+        3 => literal_length(bytes),
+        _ => None,
     }
-    if kind == 2 {
-        if whole_label(&chars[..n]) {
-            return bytes.len() + 2;
-        }
-        return 0;
-    }
-    if kind == 3 {
-        return literal_length(bytes);
-    }
-    0
 }
 
 // Writes the text of a term that has one from place `at` on, and answers the place after it.
@@ -44,13 +32,13 @@ pub fn put_text(kind: u32, bytes: &[u8], page: &mut [u8], at: usize) -> usize
     requires { TextFits (term_text (term kind bytes.now)) at page.old }
     ensures { Wrote page.old at (or_nothing (term_text (term kind bytes.now))) page.new result }
 {
-    if kind == 1 {
-        return put_iri(bytes, page, at);
+    match kind {
+        1 => put_iri(bytes, page, at),
+        2 => {
+            page[at] = b'_';
+            page[at + 1] = b':';
+            put_part(bytes, page, at + 2)
+        }
+        _ => put_literal(bytes, page, at),
     }
-    if kind == 2 {
-        page[at] = 95;
-        page[at + 1] = 58;
-        return put_part(bytes, page, at + 2);
-    }
-    put_literal(bytes, page, at)
 }

@@ -5,44 +5,31 @@ ghost use Rattle.dictionary_layout.specs.Terms.{term};
 ghost use Rattle.ntriples.specs.Characters.{one_of};
 ghost use Rattle.ntriples_utf8.specs.Promises.{Wrote};
 ghost use Rattle.ntriples_canonical.specs.Writing.{escaped, escape_all, suffix_text, term_text};
-ghost use Rattle.ntriples_text.specs.Promises.{or_nothing, text_length, TextFits, in_angles, ZeroEnds, is_suffix, escape_by};
-ghost use Rattle.ntriples_text.specs.Promises.{Utf8Short};
+ghost use Rattle.ntriples_text.specs.Promises.{or_nothing, text_size, TextFits, in_angles, LastZero, is_suffix, escape_by, Utf8Short};
 
 use dictionary_layout::bytes::{copy_at, same_bytes};
 use ntriples_lines::XSD_STRING;
 use ntriples_tokens::{iri, tag};
 
-// The place after the last zero, 0 where there is none.
-fn after_zero(bytes: &[u8]) -> usize
-    ensures { ZeroEnds bytes.now result }
+// The place of the last zero.
+fn last_zero(bytes: &[u8]) -> Option<usize>
+    ensures { LastZero bytes.now result }
 {
-    let mut i = bytes.len();
-    while 0 < i {
-        if bytes[i - 1] == 0 {
-            return i;
-        }
-        i -= 1;
-    }
-    0
+    bytes.iter().rposition(|b| *b == 0)
 }
 
-// The letter of a character's escape, 0 for one that is written as it is.
-fn escape_letter(b: u8) -> u8
+// The letter of a character's escape, none for one that is written as it is.
+#[tactic(auto, unfolding(ntriples_canonical::specs::Writing::escaped))]
+fn escape_letter(b: u8) -> Option<u8>
     ensures { escape_by result b ≡ escaped b }
 {
-    if b == 34 {
-        return 34;
+    match b {
+        b'"' => Some(b'"'),
+        b'\\' => Some(b'\\'),
+        b'\n' => Some(b'n'),
+        b'\r' => Some(b'r'),
+        _ => None,
     }
-    if b == 92 {
-        return 92;
-    }
-    if b == 10 {
-        return 110;
-    }
-    if b == 13 {
-        return 114;
-    }
-    0
 }
 
 // How many bytes a text has when it is escaped.
@@ -51,12 +38,10 @@ fn escaped_length(text: &[u8]) -> usize
     ensures { result ≡ length (escape_all text.now) }
 {
     let mut n = text.len();
-    let mut i = 0;
-    while i < text.len() {
-        if escape_letter(text[i]) != 0 {
+    for b in text {
+        if escape_letter(*b).is_some() {
             n += 1;
         }
-        i += 1;
     }
     n
 }
@@ -75,9 +60,9 @@ pub fn put_iri(bytes: &[u8], page: &mut [u8], at: usize) -> usize
     requires { at + length (in_angles bytes.now) ≤ length page.old }
     ensures { Wrote page.old at (in_angles bytes.now) page.new result }
 {
-    page[at] = 60;
+    page[at] = b'<';
     let n = put_part(bytes, &mut *page, at + 1);
-    page[n] = 62;
+    page[n] = b'>';
     n + 1
 }
 
@@ -86,13 +71,12 @@ fn put_escape(b: u8, page: &mut [u8], at: usize) -> usize
     requires { at + length (escaped b) ≤ length page.old }
     ensures { Wrote page.old at (escaped b) page.new result }
 {
-    let e = escape_letter(b);
-    if e == 0 {
+    let Some(letter) = escape_letter(b) else {
         page[at] = b;
         return at + 1;
-    }
-    page[at] = 92;
-    page[at + 1] = e;
+    };
+    page[at] = b'\\';
+    page[at + 1] = letter;
     at + 2
 }
 
@@ -102,10 +86,8 @@ fn put_escaped(text: &[u8], page: &mut [u8], at: usize) -> usize
     ensures { Wrote page.old at (escape_all text.now) page.new result }
 {
     let mut n = at;
-    let mut i = 0;
-    while i < text.len() {
-        n = put_escape(text[i], &mut *page, n);
-        i += 1;
+    for b in text {
+        n = put_escape(*b, &mut *page, n);
     }
     n
 }
@@ -114,14 +96,7 @@ fn put_escaped(text: &[u8], page: &mut [u8], at: usize) -> usize
 fn has_colon(d: &[u8]) -> bool
     ensures { result ≡ one_of d.now 58 }
 {
-    let mut i = 0;
-    while i < d.len() {
-        if d[i] == 58 {
-            return true;
-        }
-        i += 1;
-    }
-    false
+    d.contains(&b':')
 }
 
 // How many bytes follow a literal's text.
@@ -147,11 +122,11 @@ fn put_suffix(d: &[u8], page: &mut [u8], at: usize) -> usize
         return at;
     }
     if has_colon(d) {
-        page[at] = 94;
-        page[at + 1] = 94;
+        page[at] = b'^';
+        page[at + 1] = b'^';
         return put_iri(d, page, at + 2);
     }
-    page[at] = 64;
+    page[at] = b'@';
     put_part(d, page, at + 1)
 }
 
@@ -159,37 +134,30 @@ fn put_suffix(d: &[u8], page: &mut [u8], at: usize) -> usize
 fn is_suffix(d: &[u8]) -> bool
     ensures { result ≡ is_suffix d.now }
 {
-    if iri(d) {
-        return true;
-    }
-    tag(d)
+    iri(d) || tag(d)
 }
 
-// How many bytes the text of a literal has whose bytes are UTF-8, 0 where reading could never have put it.
-pub fn literal_length(bytes: &[u8]) -> usize
+// How many bytes the text of a literal has whose bytes are UTF-8, none where reading could never have put it.
+pub fn literal_length(bytes: &[u8]) -> Option<usize>
     requires { Utf8Short bytes.now }
-    ensures { result ≡ text_length (term 3 bytes.now) }
+    ensures { result ≡ text_size (term_text (term 3 bytes.now)) }
 {
-    let z = after_zero(bytes);
-    if z == 0 {
-        return 0;
+    let z = last_zero(bytes)?;
+    let suffix = &bytes[z + 1..];
+    if !is_suffix(suffix) {
+        return None;
     }
-    if is_suffix(&bytes[z..]) {
-        let t = escaped_length(&bytes[..z - 1]);
-        let d = suffix_length(&bytes[z..]);
-        return t + d + 2;
-    }
-    0
+    Some(escaped_length(&bytes[..z]) + suffix_length(suffix) + 2)
 }
 
-// Writes a literal that has a text.
+// Writes a literal that has a text, so that one of its bytes is a zero.
 pub fn put_literal(bytes: &[u8], page: &mut [u8], at: usize) -> usize
     requires { TextFits (term_text (term 3 bytes.now)) at page.old }
     ensures { Wrote page.old at (or_nothing (term_text (term 3 bytes.now))) page.new result }
 {
-    let z = after_zero(bytes);
-    page[at] = 34;
-    let n = put_escaped(&bytes[..z - 1], &mut *page, at + 1);
-    page[n] = 34;
-    put_suffix(&bytes[z..], page, n + 1)
+    let z = last_zero(bytes).unwrap();
+    page[at] = b'"';
+    let n = put_escaped(&bytes[..z], &mut *page, at + 1);
+    page[n] = b'"';
+    put_suffix(&bytes[z + 1..], page, n + 1)
 }

@@ -73,11 +73,12 @@ module _ {chars : List ℕ} {at end i : ℕ} (b : Labelling chars at end i) wher
       let t = label_rest (drop (suc i) chars) in
       let c = get_or chars i 0 in
       let p = part chars at i in
-      let q : part chars at (suc i) ≡ p ++ (c ∷ []) = part_suc chars at i (omega arith) h in
+      let q = part_suc chars at i (omega arith) h in
+      let r : part chars at (suc i) ≡ p ++ (c ∷ []) = rw add-one at q in
       rw add-one (record {
         rest_is = b.rest_is
             ∙ (rw (drop-cons chars i 0 h, e) (ap (λ l. token l t.rest) (sym (append_assoc p (c ∷ []) t.chars)))
-            ∙ (ap (λ l. token (l ++ t.chars) t.rest) (sym q) ∙ sym (joined_none (part chars at (suc i)) (drop (suc i) chars))));
+            ∙ (ap (λ l. token (l ++ t.chars) t.rest) (sym r) ∙ sym (joined_none (part chars at (suc i)) (drop (suc i) chars))));
         after = omega arith;
         upto = omega arith;
         within = h;
@@ -89,11 +90,13 @@ module _ {chars : List ℕ} {at end i : ℕ} (b : Labelling chars at end i) wher
   labelling_dot h n e =
       let t = label_rest (drop (suc i) chars) in
       let c = get_or chars i 0 in
+      let q = part_suc chars at i (omega arith) h in
+      let r : part chars at (suc i) ≡ part chars at i ++ (c ∷ []) = rw add-one at q in
       rw add-one (record {
         rest_is = b.rest_is
             ∙ (rw (drop-cons chars i 0 h, n, eq-eqb c 46 e)
             (joined_dot (part chars at end) (drop end chars) (part chars at i) c (drop (suc i) chars) t.chars t.rest)
-            ∙ ap (λ l. joined (part chars at end) (drop end chars) l t.chars t.rest) (sym (part_suc chars at i (omega arith) h)));
+            ∙ ap (λ l. joined (part chars at end) (drop end chars) l t.chars t.rest) (sym r));
         after = b.after;
         upto = omega arith;
         within = h;

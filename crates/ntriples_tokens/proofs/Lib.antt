@@ -1,7 +1,5 @@
-pub mod Classes
 pub mod Escapes
 pub mod Parts
-pub mod Runs
 pub mod Tags
 pub mod Labels
 pub mod Writing

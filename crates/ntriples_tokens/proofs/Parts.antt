@@ -1,10 +1,10 @@
 -- Parts of a list, by one element more or less. Assumes nothing.
-use mathlib.Core.Path.{◌≡◌, sym, ap, ◌∙◌}
+use mathlib.Core.Path.{◌≡◌, refl, sym, ap, ◌∙◌}
 use mathlib.Core.List.{List, [], ◌∷◌, ◌++◌}
 use Prim.Native.Nat.{ℕ, suc, ◌+◌, ◌-◌, ◌≤◌, ◌<◌}
 use native.Mathlib.Omega.{arith}
 use lib.ListN.{length, get_or, take, drop, length-drop}
-use lib.Seq.{take-suc, take-add, get_or-drop, drop-cons, drop_at, length-take-le}
+use lib.Seq.{take-suc, take-add, get_or-drop, take_all, drop-cons, drop_at, length-take-le}
 use Rattle.ntriples_tokens.specs.Promises.{part}
 
 -- an empty part
@@ -12,9 +12,9 @@ pub part_none : (cs : List ℕ) (at : ℕ) → part cs at at ≡ []
 part_none cs at = let e : at - at ≡ 0 = omega arith in ap (λ n. take n (drop at cs)) e
 
 -- one element more at the end
-pub part_suc : (cs : List ℕ) (at i : ℕ) → at ≤ i → i < length cs → part cs at (suc i) ≡ part cs at i ++ (get_or cs i 0 ∷ [])
+pub part_suc : (cs : List ℕ) (at i : ℕ) → at ≤ i → i < length cs → part cs at (i + 1) ≡ part cs at i ++ (get_or cs i 0 ∷ [])
 part_suc cs at i h l =
-    let e : suc i - at ≡ suc (i - at) = omega arith in
+    let e : (i + 1) - at ≡ suc (i - at) = omega arith in
     let k : i - at < length (drop at cs) = simp length-drop (omega arith) in
     let g : get_or (drop at cs) (i - at) 0 ≡ get_or cs i 0 = get_or-drop at cs (i - at) 0 ∙ ap (λ n. get_or cs n 0) (omega arith) in
     ap (λ n. take n (drop at cs)) e ∙ (take-suc (drop at cs) (i - at) 0 k ∙ ap (λ c. take (i - at) (drop at cs) ++ (c ∷ [])) g)
@@ -37,3 +37,16 @@ part_behind old new bs used n h k l e =
     sym (drop_at (take used new) (part new used n) used (length-take-le used new l))
     ∙ (ap (drop used) (sym (take-add used (n - used) new) ∙ (ap (λ m. take m new) s ∙ e))
     ∙ drop_at (take used old) bs used (length-take-le used old k))
+
+-- what is left from a place on,
+pub part_all : (cs : List ℕ) (at : ℕ) → part cs at (length cs) ≡ drop at cs
+part_all cs at = take_all (length cs - at) (drop at cs) (simp length-drop (omega arith))
+
+-- an element of it,
+pub char_at : (cs : List ℕ) (at k j : ℕ) → k < length (part cs at (length cs)) → j ≡ at + k → get_or (part cs at (length cs)) k 0
+    ≡ get_or cs j 0
+char_at cs at k j h e = ap (λ l. get_or l k 0) (part_all cs at) ∙ (get_or-drop at cs k 0 ∙ ap (λ n. get_or cs n 0) (sym e))
+
+-- and its first n
+pub part_front : (cs : List ℕ) (at n : ℕ) → take (n - 0) (part cs at (length cs)) ≡ take n (drop at cs)
+part_front cs at n = let e : n - 0 ≡ n = omega arith in rw (e, part_all cs at) refl

@@ -11,12 +11,12 @@ use lib.ListN.{length, get_or, take, drop, length-drop, drop_of_length-le}
 use lib.Seq.{drop-cons, drop-drop}
 use borrow.Author.Tests.{eq-eqb, ne_eqb}
 use Rattle.common.specs.Triples.{if}
+use Rattle.std.specs.Prelude.{Some, None}
 use Rattle.ntriples.specs.Utf8.{Taken, taken, on, encode_one, encode}
 use Rattle.ntriples.specs.Grammar.{Token, token, push, when, escape, quoted}
 use Rattle.ntriples.proofs.Bytes.{quoted_drop}
 use Rattle.ntriples_utf8.specs.Promises.{top, Wrote}
 use Rattle.ntriples_tokens.specs.Promises.{stop, raw, letters, character, quoted_in, output, behind, Room, Parses}
-use Rattle.ntriples_tokens.specs.declared.values.Parsed.TheVariants.{At, Bad as NoToken}
 use Rattle.ntriples_tokens.proofs.Writing.{one_few}
 use Rattle.ntriples_tokens.proofs.Sound.{Sound, character_sound}
 
@@ -64,23 +64,10 @@ pub record Fits (v k : ℕ) (chars : List ℕ) (i : ℕ) (out : List ℕ) (n : �
   pub room : n + 4 ≤ length out
   pub within : i + (1 + k) ≤ length chars
 
--- no character was read
-pub quoting_start : (b : Bool) {chars : List ℕ} {at : ℕ} {old : List ℕ} {used s : ℕ} → s ≡ stop b → Room 0 chars at old used
-    → Quoting b chars at old used s old at used
-quoting_start b e r = record {
-  stop_is = e;
-  output_is = refl;
-  after = omega arith;
-  within = r.within;
-  more = omega arith;
-  few = omega arith;
-  same = refl;
-}
-
 module _ {b : Bool} {chars : List ℕ} {at : ℕ} {old : List ℕ} {used s : ℕ} {out : List ℕ} {i n : ℕ}
     (q : Quoting b chars at old used s out i n) where
   -- no character is left
-  pub quoting_end : length chars ≤ i → Parses 0 chars at old used (quoted_in b (drop at chars)) NoToken out
+  pub quoting_end : length chars ≤ i → Parses 0 chars at old used (quoted_in b (drop at chars)) None out
   unfolding quoted
   quoting_end h = record {
     output_is = sym (q.output_is ∙ ap (λ l. behind (take n out) (quoted_in b l)) (drop_of_length-le chars h));
@@ -95,7 +82,8 @@ module _ {b : Bool} {chars : List ℕ} {at : ℕ} {old : List ℕ} {used s : ℕ
     at_next o e = q.output_is ∙ ap (behind (take n out)) (ap (quoted_in b) (drop-cons chars i 0 h) ∙ e)
 
     -- the one that ends the token
-    pub quoting_stop : get_or chars i 0 ≡ s → Parses 0 chars at old used (quoted_in b (drop at chars)) (At (i + 1) n) out
+    pub quoting_stop : get_or chars i 0 ≡ s
+        → Parses 0 chars at old used (quoted_in b (drop at chars)) (Some (record { next = i + 1; end = n })) out
     unfolding encode
     quoting_stop e =
         let c = get_or chars i 0 in
@@ -111,7 +99,7 @@ module _ {b : Bool} {chars : List ℕ} {at : ℕ} {old : List ℕ} {used s : ℕ
     module _ (ne : get_or chars i 0 ≡ s → ⊥) where
       -- none that may stand there
       pub quoting_bad : none ≡ character b (get_or chars i 0) (drop (suc i) chars)
-          → Parses 0 chars at old used (quoted_in b (drop at chars)) NoToken out
+          → Parses 0 chars at old used (quoted_in b (drop at chars)) None out
       quoting_bad e =
           let c = get_or chars i 0 in
           let cs = drop (suc i) chars in

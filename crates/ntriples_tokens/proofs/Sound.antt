@@ -2,14 +2,12 @@
 -- Assumes nothing.
 use mathlib.Core.Path.{◌≡◌, sym, ap}
 use mathlib.Core.Bool.{Bool, true, false}
-use mathlib.Core.Option.{Option, some, none}
+use mathlib.Core.Option.{Option, some}
 use mathlib.Core.List.{List, [], ◌∷◌}
 use Prim.Native.Nat.{ℕ, zero, suc, ◌+◌, ◌*◌, ◌≤◌}
-use native.Mathlib.Numerals.{add-one}
 use native.Mathlib.Omega.{arith}
 use lib.Dec.{T, eqb, eqb→eq}
-use lib.ListN.{length, get_or, drop}
-use borrow.Author.Tests.{eq-eqb, ne_eqb}
+use lib.ListN.{length}
 use Rattle.common.specs.Triples.{if}
 use Rattle.ntriples.specs.Utf8.{scalar, Taken, taken, on}
 use Rattle.ntriples.specs.Characters.{one_of, hex, echar}
@@ -108,16 +106,3 @@ character_sound b c cs {v} {k} h e =
         let x = same_value w.1 in
         let y = same_extra w.1 in
         record { small = omega arith; few = omega arith }
-
--- WHAT `character` ANSWERS: an escape,
-pub character_escape : (b : Bool) (chars : List ℕ) (at : ℕ) → get_or chars at 0 ≡ 92 → escape (letters b) (drop (at + 1) chars)
-    ≡ character b (get_or chars at 0) (drop (suc at) chars)
-character_escape b chars at e = rw (eq-eqb (get_or chars at 0) 92 e) (ap (λ n. escape (letters b) (drop n chars)) (add-one at))
-
--- a raw character,
-pub character_raw : (b : Bool) (c : ℕ) (cs : List ℕ) → (c ≡ 92 → ⊥) → raw b c ≡ true → some (taken c 0) ≡ character b c cs
-character_raw b c cs n e = rw (ne_eqb c 92 n) (ap (λ (x : Bool). when x (λ _. some (taken c 0))) (sym e))
-
--- or none
-pub character_none : (b : Bool) (c : ℕ) (cs : List ℕ) → (c ≡ 92 → ⊥) → raw b c ≡ false → none ≡ character b c cs
-character_none b c cs n e = rw (ne_eqb c 92 n) (ap (λ (x : Bool). when x (λ _. some (taken c 0))) (sym e))

@@ -1,6 +1,6 @@
 -- A token's contract, for the functions that read one: where it opens with a certain character, where its characters are a part of the
 -- line's, where there is none. Assumes nothing.
-use mathlib.Core.Path.{◌≡◌, refl, sym, ap, subst, ◌∙◌}
+use mathlib.Core.Path.{◌≡◌, refl, sym, ap, ◌∙◌}
 use mathlib.Core.Bool.{Bool, true, false}
 use mathlib.Core.Option.{Option, some, none}
 use mathlib.Core.List.{List, [], ◌∷◌}
@@ -11,35 +11,29 @@ use lib.Dec.{eqb}
 use lib.ListN.{length, get_or, take, drop, drop_of_length-le}
 use lib.Seq.{drop-cons}
 use borrow.Author.Tests.{eq-eqb, ne_eqb}
+use Rattle.std.specs.Prelude.{Option as Maybe, Some, None}
 use Rattle.ntriples.specs.Utf8.{encode}
 use Rattle.ntriples.specs.Grammar.{Token, token, when, string_literal_quote}
 use Rattle.ntriples_utf8.specs.Promises.{Wrote}
-use Rattle.ntriples_tokens.specs.Promises.{quoted_in, part, output, behind, Room, Bounded, Parses}
-use Rattle.ntriples_tokens.specs.declared.values.Parsed.{Parsed}
-use Rattle.ntriples_tokens.specs.declared.values.Parsed.TheVariants.{At, Bad as NoToken}
+use Rattle.ntriples_tokens.specs.Promises.{quoted_in, part, output, behind, Bounded, Parses}
+use Rattle.ntriples_tokens.specs.declared.values.Token.{Token as Ends}
 use Rattle.ntriples_tokens.proofs.Parts.{part_length}
 use Rattle.ntriples_tokens.proofs.Writing.{encode_few}
-
--- there is room for a token that begins later
-pub room_later : {chars : List ℕ} {at : ℕ} {out : List ℕ} {used i : ℕ} → Room 0 chars at out used → at ≤ i → i ≤ length chars
-    → Room 0 chars i out used
-room_later {chars} {at} {out} {used} {i} r h l =
-    let m = r.room in record { within = l; scalars = r.scalars; room = omega arith }
 
 -- no token
 pub parses_none : {chars : List ℕ} {at : ℕ} {old : List ℕ} {used : ℕ} {o : Option Token} {new : List ℕ} → o ≡ none → length new ≡ length
     old
-    → Parses 0 chars at old used o NoToken new
+    → Parses 0 chars at old used o None new
 parses_none {chars} {at} {old} {used} {o} e l =
     record { output_is = sym (ap (behind (take used old)) e); bounded = tt; same = l }
 
 -- a token that another begins with
-bounded_from : (chars : List ℕ) (at i used : ℕ) (r : Parsed) → at ≤ i → Bounded 0 chars i used r → Bounded 0 chars at used r
-bounded_from chars at i used (At next n) h (a, b, c, d) = (omega arith, b, c, omega arith)
-bounded_from chars at i used NoToken h b = tt
+bounded_from : (chars : List ℕ) (at i used : ℕ) (r : Maybe Ends) → at ≤ i → Bounded 0 chars i used r → Bounded 0 chars at used r
+bounded_from chars at i used (Some t) h (a, b, c, d) = (omega arith, b, c, omega arith)
+bounded_from chars at i used None h b = tt
 
-pub parses_from : {chars : List ℕ} {at i : ℕ} {old : List ℕ} {used : ℕ} {o p : Option Token} {r : Parsed} {new : List ℕ} → at ≤ i → o ≡ p
-    → Parses 0 chars i old used p r new → Parses 0 chars at old used o r new
+pub parses_from : {chars : List ℕ} {at i : ℕ} {old : List ℕ} {used : ℕ} {o p : Option Token} {r : Maybe Ends} {new : List ℕ} → at ≤ i
+    → o ≡ p → Parses 0 chars i old used p r new → Parses 0 chars at old used o r new
 parses_from {chars} {at} {i} {old} {used} {o} {p} {r} h e q = record {
   output_is = q.output_is ∙ ap (behind (take used old)) (sym e);
   bounded = bounded_from chars at i used r h q.bounded;
@@ -49,7 +43,7 @@ parses_from {chars} {at} {i} {old} {used} {o} {p} {r} h e q = record {
 -- a token whose characters are a part of the line's
 pub parses_part : {chars : List ℕ} {at i end : ℕ} {old : List ℕ} {used : ℕ} {o : Option Token} {new : List ℕ} {n : ℕ} → at ≤ i → i ≤ end
     → end ≤ length chars → o ≡ some (token (part chars i end) (drop end chars)) → Wrote old used (encode (part chars i end)) new n
-    → Parses 0 chars at old used o (At end n) new
+    → Parses 0 chars at old used o (Some (record { next = end; end = n })) new
 parses_part {chars} {at} {i} {end} {old} {used} {o} {new} {n} h k l e w =
     let f = encode_few (part chars i end) in
     let g = part_length chars i end l in
@@ -60,20 +54,6 @@ parses_part {chars} {at} {i} {end} {old} {used} {o} {new} {n} h k l e w =
       bounded = (omega arith, l, omega arith, omega arith);
       same = w.same;
     }
-
--- the buffer has them
-pub part_room : {chars : List ℕ} {at end : ℕ} {old : List ℕ} {used : ℕ} {new : List ℕ} {n : ℕ} → Room 0 chars at old used
-    → end ≤ length chars → at ≤ end → Wrote old used (encode (part chars at end)) new n → n ≤ length new
-part_room {chars} {at} {end} {old} {used} {new} {n} r l k w =
-    let m = r.room in
-    let q = w.end in
-    let s = w.same in
-    omega (arith, encode_few (part chars at end), part_length chars at end l)
-
--- the answer of a function that was matched
-pub parses_as : {chars : List ℕ} {at : ℕ} {old : List ℕ} {used : ℕ} {o : Option Token} {r s : Parsed} {new : List ℕ} → r ≡ s
-    → Parses 0 chars at old used o r new → Parses 0 chars at old used o s new
-parses_as {chars} {at} {old} {used} {o} {r} {s} {new} e q = subst (λ (x : Parsed). Parses 0 chars at old used o x new) e q
 
 -- A CHARACTER THAT OPENS A TOKEN: g is f after x
 pub record Opens (g f : List ℕ → Option Token) (x : ℕ) : Type 0 where

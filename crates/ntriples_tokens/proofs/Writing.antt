@@ -1,18 +1,19 @@
 -- Scalar values written in UTF-8, one after the other. Assumes nothing.
 use mathlib.Core.Path.{◌≡◌, refl, sym, ap, subst, ◌∙◌}
 use mathlib.Core.List.{List, [], ◌∷◌, ◌++◌, append_assoc, append-nil}
-use Prim.Native.Nat.{ℕ, ◌+◌, ◌*◌, ◌≤◌, ◌<◌}
+use Prim.Native.Nat.{ℕ, ◌+◌, ◌-◌, ◌*◌, ◌≤◌, ◌<◌}
 use native.Mathlib.Nat.{add-zero}
-use native.Mathlib.Numerals.{add-one}
 use native.Mathlib.Omega.{arith}
 use lib.Dec.{ltb}
-use lib.ListN.{length, get_or, take, length-append}
+use lib.Seq.{get_or-take, get_or-drop, length-take-le}
+use Rattle.std.proofs.lemmas.List.{take_more}
+use lib.ListN.{length, get_or, take, drop, length-append}
 use Rattle.ntriples.specs.Utf8.{encode_one, encode}
 use Rattle.ntriples.proofs.Tests.{if_ind}
 use Rattle.ntriples.proofs.Utf8.{encode_append}
-use Rattle.ntriples_utf8.specs.Promises.{Wrote}
+use Rattle.ntriples_utf8.specs.Promises.{top, Wrote}
 use Rattle.ntriples_tokens.specs.Promises.{part, Room}
-use Rattle.ntriples_tokens.proofs.Parts.{part_none, part_suc, part_length}
+use Rattle.ntriples_tokens.proofs.Parts.{part_length}
 
 -- four bytes at most for each
 pub one_few : (c : ℕ) → length (encode_one c) ≤ 4
@@ -46,46 +47,24 @@ wrote_then {a} {at} {xs} {b} {m} {ys} {c} {n} v w = record {
   same = w.same ∙ v.same;
 }
 
--- THE LOOP that writes a part: the scalar values from `at` up to i are written
-pub record Putting (chars : List ℕ) (at end : ℕ) (old : List ℕ) (used : ℕ) (out : List ℕ) (i n : ℕ) : Type 0 where
-  pub wrote : Wrote old used (encode (part chars at i)) out n
-  pub after : at ≤ i
-  pub upto : i ≤ end
+-- THE LOOP that writes a part: its first k scalar values are written. There is room for the next,
+pub putting_room : {chars : List ℕ} {at : ℕ} {old : List ℕ} {used : ℕ} (end k : ℕ) {out : List ℕ} {n : ℕ} → Room 0 chars at old used
+    → end ≤ length chars → Wrote old used (encode (take k (part chars at end))) out n → k < length (part chars at end)
+    → (get_or (part chars at end) k 0 ≤ top) × (n + 4 ≤ length out)
+putting_room {chars} {at} {old} {used} end k {out} {n} r l w h =
+    let xs = part chars at end in
+    let m = r.room in
+    let e = w.end in
+    let s = w.same in
+    let f : k < end - at = omega (arith, part_length chars at end l) in
+    let g : get_or xs k 0 ≡ get_or chars (at + k) 0 = get_or-take (end - at) (drop at chars) k 0 f ∙ get_or-drop at chars k 0 in (
+      subst (λ c. c ≤ top) (sym g) (r.scalars (at + k) (omega arith)),
+      omega (arith, encode_few (take k xs), length-take-le k xs (omega arith)),
+    )
 
--- none
-pub putting_start : (chars : List ℕ) (at end : ℕ) (old : List ℕ) (used : ℕ) → at ≤ end → Putting chars at end old used old at used
-unfolding encode
-putting_start chars at end old used h =
-    record { wrote = rw (part_none chars at) (wrote_none old used); after = omega arith; upto = h }
-
-module _ {chars : List ℕ} {at end : ℕ} {old : List ℕ} {used : ℕ} {out : List ℕ} {i n : ℕ} (p : Putting chars at end old used out i n)
-    (l : end ≤ length chars) where
-  -- the bytes written so far
-  pub putting_few : n + 4 * at ≤ used + 4 * i
-  putting_few =
-      let a = p.after in
-      let u = p.upto in
-      let e = p.wrote.end in
-      omega (arith, encode_few (part chars at i), part_length chars at i (omega arith))
-
-  -- there is room for the next
-  pub putting_room : Room 0 chars at old used → i < end → n + 4 ≤ length out
-  putting_room r h = let f = putting_few in let s = p.wrote.same in let m = r.room in omega arith
-
-  -- the next
-  pub putting_step : i < end → {new : List ℕ} {m : ℕ} → Wrote out n (encode_one (get_or chars i 0)) new m
-      → Putting chars at end old used new (i + 1) m
-  putting_step h {new} {m} w = rw add-one (record {
-    wrote = subst (λ l. Wrote old used l new m)
-        (sym (ap encode (part_suc chars at i p.after (omega arith)) ∙ encode_last (part chars at i) (get_or chars i 0)))
-        (wrote_then p.wrote w);
-    after = omega (arith, p.after);
-    upto = h;
-  })
-
-  -- all of them
-  pub putting_end : end ≤ i → Wrote old used (encode (part chars at end)) out n
-  putting_end h =
-      let u = p.upto in
-      let e : i ≡ end = omega arith in
-      subst (λ k. Wrote old used (encode (part chars at k)) out n) e p.wrote
+-- which is written,
+pub putting_step : {old : List ℕ} {used : ℕ} (xs : List ℕ) (k : ℕ) {out : List ℕ} {n : ℕ} {new : List ℕ} {m : ℕ}
+    → Wrote old used (encode (take k xs)) out n → k < length xs → Wrote out n (encode_one (get_or xs k 0)) new m
+    → Wrote old used (encode (take (k + 1) xs)) new m
+putting_step {old} {used} xs k {new = new} {m = m} w h v =
+    subst (λ l. Wrote old used l new m) (sym (ap encode (take_more xs k 0 h) ∙ encode_last (take k xs) (get_or xs k 0))) (wrote_then w v)

@@ -1,32 +1,18 @@
 -- What the functions that read tokens promise. A token's characters go, in UTF-8, behind the bytes that `out` has already. Assumes nothing.
-use Rattle.std.specs.Prelude.{◌≡◌, Bool, true, false, List, ◌++◌, ℕ, ◌+◌, ◌-◌, ◌*◌, ◌≤◌, ◌<◌, ltb, eqb, length, get_or, take, drop}
+use Rattle.std.specs.Prelude.{◌≡◌, Bool, true, false, List, ◌++◌, ℕ, ◌+◌, ◌-◌, ◌*◌, ◌≤◌, ◌<◌, eqb, length, get_or, take, drop}
+use Rattle.std.specs.Prelude.{Option as Maybe, Some, None}
 use Rattle.std.proofs.Math.Option.{Option, some, none}
 use Rattle.common.specs.Triples.{if}
 use Rattle.ntriples.specs.Utf8.{Taken, taken, encode}
 use Rattle.ntriples.specs.Characters.{iri_char, string_char, echar, no_echar}
 use Rattle.ntriples.specs.Grammar.{Token, when, escape, quoted, label_rest, tag_run, ws}
 use Rattle.ntriples_utf8.specs.Promises.{top}
-use Rattle.ntriples_tokens.specs.declared.escape.Hexes.{Hexes}
-use Rattle.ntriples_tokens.specs.declared.escape.Hexes.TheVariants.{Number, Bad as NoNumber}
-use Rattle.ntriples_tokens.specs.declared.values.Parsed.{Parsed}
-use Rattle.ntriples_tokens.specs.declared.values.Parsed.TheVariants.{At, Bad as NoToken}
+use Rattle.ntriples_tokens.specs.declared.values.Token.{Token as Ends}
 
--- a digit's value, none where it is not below 16
-abbrev pub digit_of : ℕ → Option ℕ
-digit_of d = if (ltb d 16) (λ _. some d) (λ _. none)
-
--- the character that an escape's letter stands for, none where it is 0
-abbrev pub letter_of : ℕ → Option ℕ
-letter_of c = if (ltb 0 c) (λ _. some c) (λ _. none)
-
-abbrev pub number_of : Hexes → Option ℕ
-number_of (Number v) = some v
-number_of NoNumber = none
-
--- UCHAR's digits: eight, or four
-abbrev pub digits : Bool → ℕ
-digits true = 8
-digits false = 4
+-- a number, none where there is none
+abbrev pub number_of : Maybe ℕ → Option ℕ
+number_of (Some v) = some v
+number_of None = none
 
 -- IRIREF (true) or STRING_LITERAL_QUOTE (false), after the character that opens it: the one that ends it, raw ones, letters of escapes
 abbrev pub stop : Bool → ℕ
@@ -66,9 +52,9 @@ behind front none = none
 behind front (some t) = some (output (front ++ encode t.chars) t.rest)
 
 -- the answer of a function that reads a token
-abbrev pub output_of : Parsed → List ℕ → List ℕ → Option Output
-output_of (At next used) chars out = some (output (take used out) (drop next chars))
-output_of NoToken chars out = none
+abbrev pub output_of : Maybe Ends → List ℕ → List ℕ → Option Output
+output_of (Some t) chars out = some (output (take t.end out) (drop t.next chars))
+output_of None chars out = none
 
 -- what is needed to read a token: scalar values, and room for four bytes for each that is left, and for `more`
 pub record Room (more : ℕ) (chars : List ℕ) (at : ℕ) (out : List ℕ) (used : ℕ) : Type 0 where
@@ -77,12 +63,13 @@ pub record Room (more : ℕ) (chars : List ℕ) (at : ℕ) (out : List ℕ) (use
   pub room : used + 4 * (length chars - at) + more ≤ length out
 
 -- where a token ends: within the characters, having written at most four bytes for each character read, and `more`
-abbrev pub Bounded : ℕ → List ℕ → ℕ → ℕ → Parsed → Type 0
-Bounded more chars at used (At next n) = (at ≤ next) × (next ≤ length chars) × (used ≤ n) × (n + 4 * at ≤ used + 4 * next + more)
-Bounded more chars at used NoToken = Unit {0}
+abbrev pub Bounded : ℕ → List ℕ → ℕ → ℕ → Maybe Ends → Type 0
+Bounded more chars at used (Some t) =
+    (at ≤ t.next) × (t.next ≤ length chars) × (used ≤ t.end) × (t.end + 4 * at ≤ used + 4 * t.next + more)
+Bounded more chars at used None = Unit {0}
 
 -- A TOKEN READ from place `at` on: o, with its bytes behind the first `used` of the buffer
-pub record Parses (more : ℕ) (chars : List ℕ) (at : ℕ) (old : List ℕ) (used : ℕ) (o : Option Token) (r : Parsed) (new : List ℕ) : Type 0
+pub record Parses (more : ℕ) (chars : List ℕ) (at : ℕ) (old : List ℕ) (used : ℕ) (o : Option Token) (r : Maybe Ends) (new : List ℕ) : Type 0
   where
     pub output_is : output_of r chars new ≡ behind (take used old) o
     pub bounded : Bounded more chars at used r

@@ -13,4 +13,4 @@ pub use label::{blank_node_label, whole_label};
 pub use language::{langtag, tag};
 pub use quoted::{iri, iriref, string_literal_quote};
 pub use space::skip_space;
-pub use values::Parsed;
+pub use values::Token;

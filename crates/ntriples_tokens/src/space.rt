@@ -5,16 +5,15 @@ ghost use Rattle.ntriples_tokens.specs.Promises.{SpaceEnds};
 use crate::characters::blank;
 
 // The first place from `at` on that has neither a space nor a tab.
+#[tactic(auto, unfolding(ntriples::specs::Grammar::ws))]
 pub fn skip_space(chars: &[u32], at: usize) -> usize
     requires { at ≤ length chars.now }
     ensures { SpaceEnds chars.now at result }
 {
-    let mut i = at;
-    while i < chars.len() {
+    for i in at..chars.len() {
         if !blank(chars[i]) {
             return i;
         }
-        i += 1;
     }
-    i
+    chars.len()
 }

@@ -6,11 +6,11 @@ ghost use Rattle.ntriples_tokens.specs.Promises.{part, Room};
 
 use ntriples_utf8::put_scalar;
 
-// The place after the token, and the place after its bytes.
+// A token that was read: the place after it, and the place after its bytes.
 #[derive(Clone, Copy)]
-pub enum Parsed {
-    At(usize, usize),
-    Bad,
+pub struct Token {
+    pub next: usize,
+    pub end: usize,
 }
 
 // Writes the scalar values from place `at` up to place `end`, and answers the place after their bytes.
@@ -18,11 +18,9 @@ pub fn put_part(chars: &[u32], at: usize, end: usize, out: &mut [u8], used: usiz
     requires { Room 0 chars.now at out.old used × (at ≤ end) × (end ≤ length chars.now) }
     ensures { Wrote out.old used (encode (part chars.now at end)) out.new result }
 {
-    let mut i = at;
     let mut n = used;
-    while i < end {
-        n = put_scalar(chars[i], &mut *out, n);
-        i += 1;
+    for c in &chars[at..end] {
+        n = put_scalar(*c, &mut *out, n);
     }
     n
 }

@@ -3,6 +3,7 @@ use mathlib.Core.Path.{◌≡◌, refl, sym, ap, ◌∙◌}
 use mathlib.Core.Bool.{◌&&◌}
 use mathlib.Core.Option.{Option, some, none}
 use mathlib.Core.List.{List, [], ◌∷◌, ◌++◌, append-nil}
+use Rattle.std.specs.Prelude.{Some, None}
 use Prim.Native.Nat.{ℕ, suc, ◌+◌, ◌-◌, ◌*◌, ◌≤◌, ◌<◌}
 use native.Mathlib.Numerals.{add-one}
 use native.Mathlib.Omega.{arith}
@@ -12,18 +13,7 @@ use lib.Seq.{drop-cons, drop-drop, take-suc-set, append_snoc}
 use Rattle.ntriples.specs.Utf8.{within, scalar, Taken, taken, tail, fit, two, three, four, first, on, prefix, decode_after, decode}
 use Rattle.ntriples.proofs.Tests.{if_ind, no_some}
 use Rattle.ntriples.proofs.Bytes.{decode_drop}
-use Rattle.ntriples_utf8.specs.Promises.{scalar_of, Decodes}
-use Rattle.ntriples_utf8.specs.declared.Scalar.{Scalar}
-use Rattle.ntriples_utf8.specs.declared.Scalar.TheVariants.{Value, Bad as NoScalar}
-use Rattle.ntriples_utf8.specs.declared.Decoded.TheVariants.{Chars, Bad as NotUtf8}
-
--- what an answer says
-pub case_value : {r : Scalar} {v k : ℕ} {o : Option Taken} → r ≡ Value v k → scalar_of r ≡ o → some (taken v k) ≡ o
-case_value e s = sym (ap scalar_of e) ∙ s
-
--- and that there is none
-pub case_bad : {r : Scalar} {o : Option Taken} → r ≡ NoScalar → scalar_of r ≡ o → none ≡ o
-case_bad e s = sym (ap scalar_of e) ∙ s
+use Rattle.ntriples_utf8.specs.Promises.{Decodes}
 
 -- NO BYTES BEYOND THE LAST are read: what is read took at most n
 abbrev Few : ℕ → Option Taken → Type 0
@@ -85,39 +75,31 @@ pub record Decoding (bytes old chars : List ℕ) (i n : ℕ) : Type 0 where
   pub upto : i ≤ length bytes
   pub same : length chars ≡ length old
 
--- nothing in front
-pub decoding_start : (bytes chars : List ℕ) → Decoding bytes chars chars 0 0
-decoding_start bytes chars = record { whole = go (decode bytes); few = omega arith; upto = omega arith; same = refl }
-  where
-    go : (o : Option (List ℕ)) → o ≡ on o (λ cs. some cs)
-    go (some cs) = refl
-    go none = refl
-
 module _ {bytes old chars : List ℕ} {i n : ℕ} (d : Decoding bytes old chars i n) (h : i < length bytes) where
   -- the bytes from i on: what the first of them begin, and the rest
   step : decode (drop i bytes)
-      ≡ on (first (get_or bytes i 0) (drop (suc i) bytes)) (λ t. on (decode_after t.extra (drop (suc i) bytes)) (prefix t.value))
+      ≡ on (first (get_or bytes i 0) (drop (i + 1) bytes)) (λ t. on (decode_after t.extra (drop (i + 1) bytes)) (prefix t.value))
   unfolding decode_after
-  step = rw (drop-cons bytes i 0 h) refl
+  step = rw (drop-cons bytes i 0 h, add-one i) refl
 
   -- they begin no scalar value
-  pub decoding_bad : none ≡ first (get_or bytes i 0) (drop (suc i) bytes) → Decodes bytes NotUtf8 chars
+  pub decoding_bad : none ≡ first (get_or bytes i 0) (drop (i + 1) bytes) → Decodes bytes None chars
   decoding_bad e =
       let b : decode (drop i bytes) ≡ none = step ∙ rw (sym e) refl in
       record { chars_are = sym (d.whole ∙ rw b refl); few = omega arith }
 
   -- they begin one: it goes behind the others
-  module _ (room : length bytes ≤ length old) (c k : ℕ) (e : some (taken c k) ≡ first (get_or bytes i 0) (drop (suc i) bytes)) where
+  module _ (room : length bytes ≤ length old) (c k : ℕ) (e : some (taken c k) ≡ first (get_or bytes i 0) (drop (i + 1) bytes)) where
     -- its bytes are there
     pub extra_few : i + (1 + k) ≤ length bytes
-    extra_few = let f = first_few (get_or bytes i 0) (drop (suc i) bytes) c k e in let l = length-drop (suc i) bytes in omega arith
+    extra_few = let f = first_few (get_or bytes i 0) (drop (i + 1) bytes) c k e in let l = length-drop (i + 1) bytes in omega arith
 
     -- the bytes behind it
     rest : decode (drop i bytes) ≡ on (decode (drop (i + (1 + k)) bytes)) (prefix c)
     rest =
-        let s : suc i + k ≡ i + (1 + k) = omega arith in
-        let g : decode_after k (drop (suc i) bytes) ≡ decode (drop (i + (1 + k)) bytes) =
-        decode_drop k (drop (suc i) bytes) ∙ ap decode (drop-drop k (suc i) bytes ∙ rw s refl) in
+        let s : (i + 1) + k ≡ i + (1 + k) = omega arith in
+        let g : decode_after k (drop (i + 1) bytes) ≡ decode (drop (i + (1 + k)) bytes) =
+        decode_drop k (drop (i + 1) bytes) ∙ ap decode (drop-drop k (i + 1) bytes ∙ rw s refl) in
         step ∙ rw (sym e) (ap (λ o. on o (prefix c)) g)
 
     -- what they decode to, behind one value more
@@ -141,7 +123,7 @@ module _ {bytes old chars : List ℕ} {i n : ℕ} (d : Decoding bytes old chars 
         }
 
 -- nothing is left
-pub decoding_end : {bytes old chars : List ℕ} {i n : ℕ} → Decoding bytes old chars i n → length bytes ≤ i → Decodes bytes (Chars n) chars
+pub decoding_end : {bytes old chars : List ℕ} {i n : ℕ} → Decoding bytes old chars i n → length bytes ≤ i → Decodes bytes (Some n) chars
 unfolding decode_after
 decoding_end {bytes} {old} {chars} {i} {n} d h =
     let f = d.few in

@@ -1,32 +1,29 @@
 -- What the functions promise: a definition for an answer that is an enum, and a record for a contract of several parts. Assumes nothing.
-use Rattle.std.specs.Prelude.{◌≡◌, List, ◌++◌, ℕ, ◌+◌, ◌≤◌, length, take}
+use Rattle.std.specs.Prelude.{◌≡◌, List, ◌++◌, ℕ, ◌+◌, ◌≤◌, length, take, Option as Maybe, Some, None}
 use Rattle.std.proofs.Math.Option.{Option, some, none}
 use Rattle.ntriples.specs.Utf8.{Taken, taken, decode}
 use Rattle.ntriples_utf8.specs.declared.Scalar.{Scalar}
-use Rattle.ntriples_utf8.specs.declared.Scalar.TheVariants.{Value, Bad as NoScalar}
-use Rattle.ntriples_utf8.specs.declared.Decoded.{Decoded}
-use Rattle.ntriples_utf8.specs.declared.Decoded.TheVariants.{Chars, Bad as NotUtf8}
 
 -- the largest scalar value
 abbrev pub top : ℕ
 top = 1114111
 
 -- a scalar value that was read, none where there is none
-abbrev pub scalar_of : Scalar → Option Taken
-scalar_of (Value v k) = some (taken v k)
-scalar_of NoScalar = none
+abbrev pub scalar_of : Maybe Scalar → Option Taken
+scalar_of (Some s) = some (taken s.value s.extra)
+scalar_of None = none
 
 -- the scalar values that were decoded, none where the bytes are not UTF-8
-abbrev pub decoded_of : Decoded → List ℕ → Option (List ℕ)
-decoded_of (Chars n) chars = some (take n chars)
-decoded_of NotUtf8 chars = none
+abbrev pub decoded_of : Maybe ℕ → List ℕ → Option (List ℕ)
+decoded_of (Some n) chars = some (take n chars)
+decoded_of None chars = none
 
-abbrev pub count_of : Decoded → ℕ
-count_of (Chars n) = n
-count_of NotUtf8 = 0
+abbrev pub count_of : Maybe ℕ → ℕ
+count_of (Some n) = n
+count_of None = 0
 
 -- `decode`: the scalar values at the front of the buffer, no more of them than bytes
-pub record Decodes (bytes : List ℕ) (r : Decoded) (chars : List ℕ) : Type 0 where
+pub record Decodes (bytes : List ℕ) (r : Maybe ℕ) (chars : List ℕ) : Type 0 where
   pub chars_are : decoded_of r chars ≡ decode bytes
   pub few : count_of r ≤ length bytes
 

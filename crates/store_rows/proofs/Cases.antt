@@ -1,5 +1,5 @@
 -- Cases of numbers and answers. Assumes nothing.
-use Rattle.std.proofs.Common.{◌≡◌, ℕ, ◌+◌, ◌<◌, ◌≤◌, Bool, true, false, ◌⊎◌, sym, inl, inr, arith}
+use Rattle.std.proofs.Common.{◌≡◌, ℕ, ◌+◌, ◌<◌, ◌≤◌, true, false, ◌⊎◌, sym, inl, inr, arith}
 use native.Mathlib.Decide.{dec_lt, ℕ_discrete}
 use Rattle.store_rows.specs.Rows.{Reflects}
 
@@ -40,7 +40,3 @@ true_false e = absurd (let z : ◌≡◌ {A = ℕ} 0 1 = cc in omega arith)
 -- a test that failed
 pub reflects_no : {P : Type 0} → (P → ⊥) → Reflects P false
 reflects_no f = record { yes = λ e. true_false (sym e); no = λ _. f }
-
--- the same test of another fact
-pub reflects_iff : {P Q : Type 0} {r : Bool} → (P → Q) → (Q → P) → Reflects P r → Reflects Q r
-reflects_iff f g a = record { yes = λ e. f (a.yes e); no = λ e q. a.no e (g q) }

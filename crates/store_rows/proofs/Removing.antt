@@ -1,9 +1,8 @@
 -- Rows with a zero id taken out: what the loop keeps. Assumes nothing.
-use Rattle.std.proofs.Common.{◌≡◌, ℕ, ◌+◌, ◌*◌, ◌<◌, ◌≤◌, Bool, true, false, not, eqb, List, [], ◌∷◌, ◌++◌, length, get_or, sym, refl, ap}
-use Rattle.std.proofs.Common.{◌∙◌, subst, inr, append_assoc, append-nil, arith, eq-eqb, ne_eqb}
-use Rattle.common.specs.Triples.{Triple, Row, if, concat_map, no_zero, without_zero_rows}
+use Rattle.std.proofs.Common.{◌≡◌, ℕ, ◌+◌, ◌*◌, ◌<◌, ◌≤◌, Bool, true, false, List, [], ◌∷◌, ◌++◌, length, get_or, sym, refl, ap}
+use Rattle.std.proofs.Common.{◌∙◌, subst, inr, append_assoc, append-nil, arith}
+use Rattle.common.specs.Triples.{Row, if, concat_map, no_zero, without_zero_rows}
 use Rattle.store_rows.specs.Rows.{width, row_at, whole_row_at, set_row, whole_rows}
-use Rattle.store_rows.specs.Zeros.{Kept}
 use Rattle.store_rows.proofs.Listed.{listed_none, listed_more}
 use Rattle.store_rows.proofs.Rows.{whole_ext, put_other, length_put, rows_put}
 
@@ -22,18 +21,6 @@ without_snoc rs r = concat_snoc rs r (λ r. if (no_zero r.it) (λ _. r ∷ []) (
 without_more : (i : ℕ) (l : List ℕ) → without_zero_rows (whole_rows (i + 1) l)
     ≡ without_zero_rows (whole_rows i l) ++ without_one (no_zero (row_at l i)) (whole_row_at l i)
 without_more i l = ap without_zero_rows (listed_more i (whole_row_at l)) ∙ without_snoc (whole_rows i l) (whole_row_at l i)
-
--- the tests of the code, one id after the other
-pub zero_first : (t : Triple) → t.s ≡ 0 → false ≡ no_zero t
-zero_first t e = rw (eq-eqb t.s 0 e)
-
--- the second is zero
-pub zero_second : (t : Triple) → (t.s ≡ 0 → ⊥) → t.p ≡ 0 → false ≡ no_zero t
-zero_second t f e = rw (ne_eqb t.s 0 f, eq-eqb t.p 0 e)
-
--- the third decides
-pub zero_last : (t : Triple) → (t.s ≡ 0 → ⊥) → (t.p ≡ 0 → ⊥) → not (eqb t.o 0) ≡ no_zero t
-zero_last t f g = rw (ne_eqb t.s 0 f, ne_eqb t.p 0 g)
 
 -- the first i of n rows are gone through, and k of them kept
 pub record Removing (l₀ : List ℕ) (n i k : ℕ) (l : List ℕ) : Type 0 where
@@ -85,15 +72,3 @@ module _ {l₀ : List ℕ} {n i k : ℕ} {l : List ℕ} (v : Removing l₀ n i k
     kept = rows_put l k r (omega (arith, v.few, v.same_length)) ∙ ap (λ q. q ++ (r ∷ [])) v.kept ∙ sym (one true z);
     beyond = λ x p. put_other l k r x (inr (omega (arith, v.few))) ∙ v.beyond x (omega arith);
   })
-
--- at last all n
-pub removing_end : {l₀ : List ℕ} {n i k : ℕ} {l : List ℕ} → Removing l₀ n i k l → n ≤ i → Kept n l₀ k l
-removing_end {l₀} {n} {i} {k} {l} v h = record {
-  same_length = v.same_length;
-  few = omega (arith, v.few, v.bound);
-  kept = v.kept ∙ ap (λ j. without_zero_rows (whole_rows j l₀)) same;
-  beyond = λ x p. v.beyond x (omega (arith, v.bound));
-}
-  where
-    same : i ≡ n
-    same = omega (arith, v.bound)

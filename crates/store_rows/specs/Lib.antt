@@ -3,3 +3,4 @@ pub mod Chains
 pub mod Layout
 pub mod Store
 pub mod Zeros
+pub mod Added

@@ -12,7 +12,7 @@ pub use layout::{
     HASH_LENGTH, INDEX_LENGTH, MEMBERS, OBJECTS, PREDICATES, RESTS, ROLES_LENGTH, SUBJECTS,
 };
 pub use store::{
-    Added, Pass, add, bucket, contains, contains_below, index_row, kept_by, load_row, position,
-    put_row, row, same_triple, shown, whole_row,
+    Full, Pass, add, bucket, contains, contains_below, index_row, kept_by, load_row, position,
+    put_row, row, shown, whole_row,
 };
 pub use zeros::remove_zero_rows;

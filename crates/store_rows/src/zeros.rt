@@ -12,13 +12,7 @@ use common::Triple;
 pub fn no_zero(t: Triple) -> bool
     ensures { result ≡ no_zero (triple_of t) }
 {
-    if t.s.0 == 0 {
-        return false;
-    }
-    if t.p.0 == 0 {
-        return false;
-    }
-    t.o.0 != 0
+    t.s.0 != 0 && t.p.0 != 0 && t.o.0 != 0
 }
 
 // Takes the rows that have an id 0 out of the first n, and answers how many are left. Their order is kept.
@@ -27,15 +21,12 @@ pub fn remove_zero_rows(store: &mut [u32], n: usize) -> usize
     ensures { Kept n store.old result store.new }
 {
     let mut kept = 0;
-    let mut i = 0;
-    while i < n {
+    for i in 0..n {
         let r = whole_row(&*store, i);
-        i += 1;
-        if !no_zero(r.it) {
-            continue;
+        if no_zero(r.it) {
+            put_row(&mut *store, kept, r);
+            kept += 1;
         }
-        put_row(&mut *store, kept, r);
-        kept += 1;
     }
     kept
 }

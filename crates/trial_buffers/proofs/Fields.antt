@@ -1,17 +1,14 @@
 -- The number that begins at a place of a text. Assumes nothing.
-use Rattle.std.proofs.Common.{◌≡◌, ℕ, suc, ◌+◌, ◌-◌, ◌<◌, ◌≤◌, Bool, true, false, ◌&&◌, eqb, ltb, ◌≢◌, List, [], ◌∷◌, length, get_or}
-use Rattle.std.proofs.Common.{take, drop, sym, refl, ap, ◌∙◌, add-one, arith, drop_of_length-le, drop-cons, le-ltb, lt-ltb, eq-eqb}
-use Rattle.std.proofs.Common.{ne_eqb, le-leb}
+use Rattle.std.proofs.Common.{◌≡◌, ℕ, suc, ◌+◌, ◌-◌, ◌<◌, ◌≤◌, Bool, true, false, ◌&&◌, ltb, List, [], ◌∷◌, length, get_or, take, drop}
+use Rattle.std.proofs.Common.{sym, refl, ap, ◌∙◌, add-one, arith, drop_of_length-le, drop-cons, le-ltb, lt-ltb, le-leb}
+use Rattle.std.specs.Prelude.{Option as Optional, Some, None, MatchOption}
+use Rattle.std.specs.Option.{is_some, unwrap_or}
 use mathlib.Core.Option.{Option, some, none}
 use borrow.Author.Tests.{lt-leb}
 use Rattle.common.specs.Triples.{if}
 use Rattle.edge_decimal.specs.Decimal.{number}
-use Rattle.edge_decimal.specs.Promises.{number_of}
-use Rattle.edge_decimal.specs.declared.Field.{Field}
-use Rattle.edge_decimal.specs.declared.Field.TheVariants.{Number, Bad as NoNumber}
-use Rattle.trial_buffers.specs.declared.reader.Read.{Read}
 use Rattle.trial_buffers.specs.declared.reader.Cursor.{Cursor}
-use Rattle.trial_buffers.specs.Reading.{ends, field, end_from, read_field, read_from, cursor_after, number_after, is_byte}
+use Rattle.trial_buffers.specs.Reading.{Read, ends, field, end_from, read_field, read_from, cursor_after, number_after, is_byte}
 use Rattle.trial_buffers.specs.Reading.{byte_of}
 
 -- the front of a text that a field is
@@ -45,9 +42,6 @@ pub record Seeking (text : List ℕ) (at end : ℕ) : Type 0 where
   pub within : end ≤ length text
   pub left : end + length (field (drop end text)) ≡ end_from text at
 
-pub seek_start : (text : List ℕ) (at : ℕ) → at ≤ length text → Seeking text at at
-seek_start text at h = record { from = omega arith; within = h; left = refl }
-
 module _ {text : List ℕ} {at end : ℕ} (c : Seeking text at end) where
   pub seek_more : end < length text → false ≡ ends (get_or text end 0) → Seeking text at (end + 1)
   seek_more h e = record { from = omega (arith, c.from); within = omega arith; left = omega (arith, c.left, field_longer text end h e) }
@@ -57,13 +51,6 @@ module _ {text : List ℕ} {at end : ℕ} (c : Seeking text at end) where
 
   pub seek_end : length text ≤ end → end ≡ end_from text at
   seek_end h = omega (arith, c.left, field_none text end h)
-
--- a space ends a number, and of other bytes the line feed
-pub ends_space : (b : ℕ) → b ≡ 32 → eqb b 32 ≡ ends b
-ends_space b e = let q = eq-eqb b 32 e in rw q refl
-
-pub ends_other : (b : ℕ) → b ≢ 32 → eqb b 10 ≡ ends b
-ends_other b n = let q = ne_eqb b 32 n in rw q refl
 
 -- THE NUMBER that begins at a place
 pub read_past : (text : List ℕ) (at : ℕ) → length text < at → record { value = 0; at = at; ok = false } ≡ read_from text at
@@ -81,39 +68,44 @@ read_by text at end h e o s =
     let q = le-ltb (length text) at h in
     rw (q, f, ← e) refl
 
-pub read_none : (text : List ℕ) (at end : ℕ) → at ≤ length text → end ≡ end_from text at → {r : Field}
-    → number_of r ≡ number 4294967295 (take (end - at) (drop at text)) → r ≡ NoNumber
-    → record { value = 0; at = at; ok = false } ≡ read_from text at
-read_none text at end h e s t = read_by text at end h e none (sym (ap number_of t) ∙ s)
+pub read_none : (text : List ℕ) (at end : ℕ) → at ≤ length text → end ≡ end_from text at
+    → none ≡ number 4294967295 (take (end - at) (drop at text)) → record { value = 0; at = at; ok = false } ≡ read_from text at
+read_none text at end h e s = read_by text at end h e none s
 
-pub read_some : (text : List ℕ) (at end : ℕ) → at ≤ length text → end ≡ end_from text at → {r : Field}
-    → number_of r ≡ number 4294967295 (take (end - at) (drop at text)) → {n p : ℕ} → r ≡ Number n
-    → p ≡ if (ltb end (length text)) (λ _. end + 1) (λ _. end) → record { value = n; at = p; ok = true } ≡ read_from text at
-read_some text at end h e s {n} t q = rw q (read_by text at end h e (some n) (sym (ap number_of t) ∙ s))
+pub read_some : (text : List ℕ) (at end : ℕ) → at ≤ length text → end ≡ end_from text at → {n p : ℕ}
+    → some n ≡ number 4294967295 (take (end - at) (drop at text)) → p ≡ if (ltb end (length text)) (λ _. end + 1) (λ _. end)
+    → record { value = n; at = p; ok = true } ≡ read_from text at
+read_some text at end h e {n} s q = rw q (read_by text at end h e (some n) s)
 
 -- ONE NUMBER MORE
-pub and-true : (a b : Bool) → a && b ≡ a && (b && true)
-and-true a true = refl
-and-true a false = refl
-
-pub cursor_more : (good : ℕ → Bool) (text : List ℕ) (c : Cursor) (i at : ℕ) (ok : Bool)
-    → record { at = at; ok = ok } ≡ cursor_after good text c i → (r : Read) → r ≡ read_from text at → (o : Bool)
-    → o ≡ ok && (r.ok && good r.value) → record { at = r.at; ok = o } ≡ cursor_after good text c (i + 1)
+pub cursor_none : (good : ℕ → Bool) (text : List ℕ) (c : Cursor) → c ≡ cursor_after good text c 0
 unfolding cursor_after
-cursor_more good text c i at ok e r f o q = rw (add-one i, ← e, ← f, q) refl
+cursor_none good text c = refl
 
-pub value_next : (good : ℕ → Bool) (text : List ℕ) (c : Cursor) (i at : ℕ) (ok : Bool)
-    → record { at = at; ok = ok } ≡ cursor_after good text c i → (r : Read) → r ≡ read_from text at
-    → r.value ≡ number_after good text c i
-value_next good text c i at ok e r f = ap (λ (x : Read). x.value) (f ∙ ap (λ (d : Cursor). read_from text d.at) e)
+module _ (good : ℕ → Bool) (text : List ℕ) (c d : Cursor) (i : ℕ) (e : d ≡ cursor_after good text c i) (r : Read)
+    (f : r ≡ read_from text d.at) where
+  -- all before it could be read, and not all
+  pub cursor_good : d.ok ≡ true → {o : Bool} → o ≡ r.ok && good r.value → record { at = r.at; ok = o } ≡ cursor_after good text c (i + 1)
+  unfolding cursor_after
+  cursor_good h q = rw (q, add-one i, ← e, ← f, h) refl
 
-pub cursor_start : (good : ℕ → Bool) (text : List ℕ) (c : Cursor) → record { at = c.at; ok = c.ok } ≡ cursor_after good text c 0
-unfolding cursor_after
-cursor_start good text c = refl
+  pub cursor_bad : d.ok ≡ false → record { at = r.at; ok = d.ok } ≡ cursor_after good text c (i + 1)
+  unfolding cursor_after
+  cursor_bad h = rw (add-one i, ← e, ← f, h) refl
 
--- a number that is no byte, and one that is
-pub no_byte : (n : ℕ) → 255 < n → (0 ≡ byte_of n) × (false ≡ is_byte n)
-no_byte n h = let q = lt-leb n 255 h in (rw q refl, sym q)
+  pub value_next : r.value ≡ number_after good text c i
+  value_next = ap (λ (x : Read). x.value) (f ∙ ap (λ (x : Cursor). read_from text x.at) e)
 
-pub a_byte : (n : ℕ) → n ≤ 255 → (n ≡ byte_of n) × (true ≡ is_byte n)
-a_byte n h = let q = le-leb n 255 h in (rw q refl, sym q)
+pub and-true : (b : Bool) → b ≡ b && true
+and-true true = refl
+and-true false = refl
+
+-- a number as a byte: none where it could not be read or is no byte
+abbrev pub Byte : Optional ℕ → Optional ℕ → Type 0
+Byte r v = MatchOption r (v ≡ None) (λ n. MatchOption v (255 < n) (λ b. (b ≡ n) × (n ≤ 255)))
+
+pub byte_read : (r v : Optional ℕ) → Byte r v
+    → (is_some v ≡ is_some r && is_byte (unwrap_or r 0)) × (unwrap_or v 0 ≡ byte_of (unwrap_or r 0))
+byte_read None v e = rw e (refl, refl)
+byte_read (Some n) None h = let q = lt-leb n 255 h in rw q (refl, refl)
+byte_read (Some n) (Some b) h = let q = le-leb n 255 h.1 in rw q (refl, h.0)

@@ -1,9 +1,10 @@
 -- Decimal numbers in a text, each ended by a space or a line feed. Assumes nothing.
 use Rattle.std.specs.Prelude.{ℕ, zero, suc, ◌+◌, Bool, true, false, ◌&&◌, ◌||◌, List, [], ◌∷◌, length, drop, ◌==◌, nat_le, nat_lt}
+use Rattle.std.specs.Option.{is_some, unwrap_or}
 use Rattle.std.proofs.Math.Option.{Option, some, none}
 use Rattle.common.specs.Triples.{if}
 use Rattle.edge_decimal.specs.Decimal.{number}
-use Rattle.trial_buffers.specs.declared.reader.Read.{Read}
+use Rattle.trial_buffers.specs.declared.reader.Read.{Read as Answer}
 use Rattle.trial_buffers.specs.declared.reader.Cursor.{Cursor}
 
 -- a space or a line feed
@@ -18,6 +19,16 @@ field (b ∷ bs) = if (ends b) (λ _. []) (λ _. b ∷ field bs)
 -- where the number that begins at a place ends
 abbrev pub end_from : List ℕ → ℕ → ℕ
 end_from text at = at + length (field (drop at text))
+
+-- a number, the place after the byte that ends it, and whether it could be read: one that could not is read as 0
+pub record Read : Type 0 where
+  pub value : ℕ
+  pub at : ℕ
+  pub ok : Bool
+
+-- the same of what the code answers
+abbrev pub read_of : Answer → Read
+read_of r = record { value = unwrap_or r.value 0; at = r.at; ok = is_some r.value }
 
 -- the number of a field, and the place after the byte that ends it; a field that is none is not passed over
 abbrev pub read_field : List ℕ → ℕ → ℕ → Option ℕ → Read

@@ -1,31 +1,30 @@
 // The text: decimal numbers, each ended by a space or a line feed.
-ghost use Rattle.std.specs.Prelude.{◌≡◌, ◌+◌, ◌≤◌, ◌&&◌, length, nat_lt};
+ghost use Rattle.std.specs.Prelude.{◌≡◌, ◌+◌, ◌≤◌, length, nat_lt};
 ghost use Rattle.common.specs.Triples.{if};
-ghost use Rattle.trial_buffers.specs.Reading.{ends, end_from, read_from, cursor_after, number_after, any, is_byte};
+ghost use Rattle.trial_buffers.specs.Reading.{ends, end_from, read_from, read_of, cursor_after, number_after, any, is_byte};
 ghost use Rattle.trial_buffers.specs.Reading.{byte_of as byte·of};
 ghost use Rattle.trial_buffers.specs.Memory.{Each};
 
-use edge_decimal::{Field, number};
+use edge_decimal::number;
 
-// A place in the text, and whether all before it could be read.
+// A place in the text, and whether all before it could be read. No Result: the place is said too where a number could not be read.
 #[derive(Clone, Copy)]
 pub struct Cursor {
     pub at: usize,
     pub ok: bool,
 }
 
-// A number, and the place after the byte that ends it.
+// A number, if it could be read, and the place after the byte that ends it.
 #[derive(Clone, Copy)]
 pub struct Read {
-    pub value: u32,
+    pub value: Option<u32>,
     pub at: usize,
-    pub ok: bool,
 }
 
 fn ends_number(b: u8) -> bool
     ensures { result ≡ ends b }
 {
-    b == 32 || b == 10
+    matches!(b, b' ' | b'\n')
 }
 
 // Where the number that begins at a place ends.
@@ -33,14 +32,12 @@ fn end_of_number(text: &[u8], at: usize) -> usize
     requires { at ≤ length text.now }
     ensures { (result ≡ end_from text.now at) × (at ≤ result) × (result ≤ length text.now) }
 {
-    let mut end = at;
-    while end < text.len() {
+    for end in at..text.len() {
         if ends_number(text[end]) {
             return end;
         }
-        end += 1;
     }
-    end
+    text.len()
 }
 
 // The place after the byte that ends a number, if the text goes on.
@@ -52,36 +49,19 @@ fn after(text: &[u8], end: usize) -> usize
 
 // The number that begins at a place.
 pub fn read_number(text: &[u8], at: usize) -> Read
-    ensures { result ≡ read_from text.now at }
+    ensures { read_of result ≡ read_from text.now at }
 {
     if text.len() < at {
-        return Read {
-            value: 0,
-            at,
-            ok: false,
-        };
+        return Read { value: None, at };
     }
     let end = end_of_number(text, at);
-    let field = number(&text[at..end], 4294967295);
-    match field {
-        Field::Bad => Read {
-            value: 0,
-            at,
-            ok: false,
-        },
-        Field::Number(value) => Read {
-            value,
+    match number(&text[at..end], u32::MAX) {
+        None => Read { value: None, at },
+        Some(value) => Read {
+            value: Some(value),
             at: after(text, end),
-            ok: true,
         },
     }
-}
-
-// Whether both hold: a place is good where all before it is.
-pub fn both(a: bool, b: bool) -> bool
-    ensures { result ≡ a && b }
-{
-    if a { b } else { false }
 }
 
 // Fills the row with the numbers from the cursor on.
@@ -89,56 +69,34 @@ pub fn read_row(text: &[u8], from: Cursor, row: &mut [u32]) -> Cursor
     ensures { (result ≡ cursor_after any text.now from (length row.old))
         × Each (number_after any text.now from) row.new }
 {
-    let mut at = from.at;
-    let mut ok = from.ok;
-    let mut i = 0;
-    while i < row.len() {
-        let read = read_number(text, at);
-        row[i] = read.value;
-        at = read.at;
-        ok = both(ok, read.ok);
-        i += 1;
-    }
-    Cursor { at, ok }
-}
-
-// A byte, and whether the number is one.
-#[derive(Clone, Copy)]
-struct Byte {
-    value: u8,
-    ok: bool,
-}
-
-fn byte_of(n: u32) -> Byte
-    ensures { (result.value ≡ byte·of n) × (result.ok ≡ is_byte n) }
-{
-    if 255 < n {
-        return Byte {
-            value: 0,
-            ok: false,
+    let mut end = from;
+    for number in row.iter_mut() {
+        let read = read_number(text, end.at);
+        *number = read.value.unwrap_or(0);
+        end = Cursor {
+            at: read.at,
+            ok: end.ok && read.value.is_some(),
         };
     }
-    Byte {
-        value: n as u8,
-        ok: true,
-    }
+    end
 }
 
 // Fills the row with the bytes whose numbers stand from the cursor on.
+// A loop of its own, and not one with `read_row` over a type parameter: the contract of that would have to say, of any closure, which
+// numbers it makes nothing of and what stands in the row then, in more lines than the loop has.
 pub fn read_bytes(text: &[u8], from: Cursor, row: &mut [u8]) -> Cursor
     ensures { (result ≡ cursor_after is_byte text.now from (length row.old))
         × Each (λ k. byte·of (number_after is_byte text.now from k)) row.new }
 {
-    let mut at = from.at;
-    let mut ok = from.ok;
-    let mut i = 0;
-    while i < row.len() {
-        let read = read_number(text, at);
-        let byte = byte_of(read.value);
-        row[i] = byte.value;
-        at = read.at;
-        ok = both(ok, both(read.ok, byte.ok));
-        i += 1;
+    let mut end = from;
+    for byte in row.iter_mut() {
+        let read = read_number(text, end.at);
+        let value = read.value.and_then(|n| u8::try_from(n).ok());
+        *byte = value.unwrap_or(0);
+        end = Cursor {
+            at: read.at,
+            ok: end.ok && value.is_some(),
+        };
     }
-    Cursor { at, ok }
+    end
 }

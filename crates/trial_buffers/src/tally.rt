@@ -24,8 +24,8 @@ impl Tally {
         ensures differences_value { result.differences ≡ (self.differences + differences) % 2 ^ 32 }
     {
         Tally {
-            calls: std::num::wrapping_add_u32(self.calls, calls),
-            differences: std::num::wrapping_add_u32(self.differences, differences),
+            calls: self.calls.wrapping_add(calls),
+            differences: self.differences.wrapping_add(differences),
         }
     }
 }

@@ -25,8 +25,7 @@ fn print_output(rt: &impl Print, input: &[u8]) -> io::Result<()> {
 fn print_first_line(rt: &impl Print, input: &[u8]) -> io::Result<()> {
     let mut out = [0u8; OUTPUT];
     let n = close_input(input, &mut out);
-    let end = find_byte(&out[..n], 0, 10);
-    if end < n {
+    if let Some(end) = find_byte(&out[..n], 0, b'\n') {
         rt.write_all(&out[..end])?;
     }
     rt.write_all(b"\n")
@@ -65,7 +64,7 @@ fn bad_counts(rt: &impl Print) -> io::Result<()> {
     print_output(rt, b"31 1 32\n")?;
     // the second line is bad too
     print_output(rt, b"501\n31 1\n")?;
-    let long = [49u8; 40000];
+    let long = [b'1'; 40000];
     print_output(rt, &long)
 }
 
@@ -103,11 +102,9 @@ fn put_lines(first: u32, p: u32, lines: u32, text: &mut [u8], at: usize) -> usiz
     ensures { result ≤ at + three_width * lines }
 {
     let mut to = at;
-    let mut k = 0;
-    while k < lines {
-        let ids = [first + k, p, first + k + 1];
+    for s in first..first + lines {
+        let ids = [s, p, s + 1];
         to = put_line(&ids, &mut *text, to);
-        k += 1;
     }
     to
 }
@@ -151,7 +148,7 @@ fn repeated(rt: &impl Print, again: u32) -> io::Result<()>
 fn longest(rt: &impl Print, n: usize) -> io::Result<()>
     requires { n ≤ input_length }
 {
-    let mut text = [49u8; INPUT];
+    let mut text = [b'1'; INPUT];
     let mut out = [0u8; OUTPUT];
     let count = put_bytes(b"500\n", &mut text, 0);
     put_lines(4294966295, 4294967295, 1000, &mut text, count);

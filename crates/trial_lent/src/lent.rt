@@ -1,14 +1,23 @@
 // The two calls that are lent structs, for callers that have the structs by value.
 ghost use Rattle.std.specs.Prelude.{◌≡◌, ◌≤◌, take, drop};
+ghost use Rattle.common.specs.Refusals.{answer_number};
 ghost use Rattle.dictionary_layout.specs.Terms.{term};
 ghost use Rattle.dictionary_layout.specs.Calls.{put_gives};
 ghost use Rattle.dictionary_layout.specs.Values.{contents};
-ghost use Rattle.dictionary_index.specs.Values.{put_left};
-ghost use Rattle.edge_records.specs.Records.{records_give};
+ghost use Rattle.dictionary_index.specs.Values.{put_lent};
+ghost use Rattle.edge_records.specs.Records.{records_result, records_give};
 ghost use Rattle.trial_lent.specs.Filled.{filled_of};
 
-use dictionary_index::{Counters, PutNext, put};
+use common::{Id, Refusal};
+use dictionary_index::{Counters, put};
 use edge_records::{FindingRecord, findings_as_records};
+
+// The answer, and the counters afterwards.
+#[derive(Clone, Copy)]
+pub struct Put {
+    pub answer: Result<Id, Refusal>,
+    pub counters: Counters,
+}
 
 // A put that is lent a copy of the counters, which is returned.
 pub fn put_lent(
@@ -17,15 +26,14 @@ pub fn put_lent(
     counters: Counters,
     kind: u32,
     bytes: &[u8],
-) -> PutNext
-    ensures { put_left result table.new arena.new
+) -> Put
+    ensures { put_lent result.answer table.new arena.new result.counters
         ≡ put_gives (contents table.old arena.old counters) (term kind bytes.now) }
 {
     let mut lent = counters;
     let answer = put(table, arena, &mut lent, kind, bytes);
-    PutNext {
-        number: answer.number,
-        id: answer.id,
+    Put {
+        answer,
         counters: lent,
     }
 }
@@ -33,19 +41,20 @@ pub fn put_lent(
 // The answer, and the four records afterwards.
 #[derive(Clone, Copy)]
 pub struct Filled {
-    pub number: u32,
+    pub answer: Result<(), Refusal>,
     pub records: [FindingRecord; 4],
 }
 
 // The records' call on the first n of four records, which are lent; the others stay.
 pub fn fill_lent(numbers: &[u32], records: [FindingRecord; 4], n: usize) -> Filled
     requires { n ≤ 4 }
-    ensures { result ≡ filled_of (records_give numbers.now (take n records)) (drop n records) }
+    ensures { records_result (answer_number result.answer) result.records
+        ≡ filled_of (records_give numbers.now (take n records)) (drop n records) }
 {
     let mut lent = records;
-    let number = findings_as_records(numbers, &mut lent[..n]);
+    let answer = findings_as_records(numbers, &mut lent[..n]);
     Filled {
-        number,
+        answer,
         records: lent,
     }
 }

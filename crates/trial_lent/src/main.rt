@@ -8,8 +8,8 @@ mod lent; // lent.rt: the two calls, for callers that have the structs by value
 
 ghost use Rattle.std.specs.Prelude.{◌≤◌, ◌<◌};
 
+use common::{Id, Refusal};
 use dictionary_index::{Counters, start};
-use dictionary_layout::bytes::{same_bytes, same_numbers};
 use edge_records::FindingRecord;
 use lent::{fill_lent, put_lent};
 use std::io;
@@ -32,8 +32,7 @@ fn print_list(rt: &impl Print, name: &str, tally: Tally) -> io::Result<()> {
 // What a put must give: the answer, the counters, and whether table and arena stay as they are.
 #[derive(Clone, Copy)]
 struct Due {
-    number: u32,
-    id: u32,
+    answer: Result<Id, Refusal>,
     terms: u32,
     used: u32,
     stays: bool,
@@ -42,8 +41,7 @@ struct Due {
 // A new term: the dictionary has one term more.
 fn new(id: u32, terms: u32, used: u32) -> Due {
     Due {
-        number: 0,
-        id,
+        answer: Ok(Id(id)),
         terms,
         used,
         stays: false,
@@ -51,10 +49,9 @@ fn new(id: u32, terms: u32, used: u32) -> Due {
 }
 
 // A held term, or a refusal.
-fn kept(number: u32, id: u32, terms: u32, used: u32) -> Due {
+fn kept(answer: Result<Id, Refusal>, terms: u32, used: u32) -> Due {
     Due {
-        number,
-        id,
+        answer,
         terms,
         used,
         stays: true,
@@ -82,23 +79,21 @@ fn step(
     let lent = state.counters;
     let tally = state.tally;
     let next = put_lent(table, arena, lent, kind, bytes);
-    let id = next.id;
     let counters = next.counters;
-    let stays = same_numbers(&old_table, &*table) && same_bytes(&old_arena, &*arena);
-    let answers = next.number == due.number && id.0 == due.id;
+    let stays = old_table == *table && old_arena == *arena;
     let counts = counters.terms == due.terms && counters.used == due.used;
-    let agrees = answers && counts && stays == due.stays;
+    let agrees = next.answer == due.answer && counts && stays == due.stays;
     State {
         counters,
-        tally: tally.with(1, !agrees as u32),
+        tally: tally.with(1, u32::from(!agrees)),
     }
 }
 
+// After a refused start there are no counters, so that every put differs from what it must give.
 fn begin(table: &mut [u32; TABLE], arena: &mut [u8; ARENA]) -> State {
-    let started = start(&mut *table, &mut *arena);
-    let counters = started.counters;
+    let none = Counters { terms: 0, used: 0 };
     State {
-        counters,
+        counters: start(table, arena).unwrap_or(none),
         tally: no_calls(),
     }
 }
@@ -117,55 +112,61 @@ fn puts(table: &mut [u32; TABLE], arena: &mut [u8; ARENA]) -> State {
     let mut s = begin(table, arena);
     s = step(table, arena, s, 1, b"urn:t1", new(31, 32, 1331));
     s = step(table, arena, s, 3, b"urn:t1", new(32, 33, 1337));
-    s = step(table, arena, s, 1, b"urn:t1", kept(0, 31, 33, 1337));
-    s = step(table, arena, s, 3, b"urn:t1", kept(0, 32, 33, 1337));
-    s = step(table, arena, s, 1, b"urn:_", kept(0, 0, 33, 1337));
-    step(table, arena, s, 1, rdf_type, kept(0, 1, 33, 1337))
+    s = step(table, arena, s, 1, b"urn:t1", kept(Ok(Id(31)), 33, 1337));
+    s = step(table, arena, s, 3, b"urn:t1", kept(Ok(Id(32)), 33, 1337));
+    s = step(table, arena, s, 1, b"urn:_", kept(Ok(Id(0)), 33, 1337));
+    step(table, arena, s, 1, rdf_type, kept(Ok(Id(1)), 33, 1337))
 }
 
 // After `puts`: refusals 10, 7 and 11; an unknown kind is refused before a term that is too long.
 fn refusals(table: &mut [u32; TABLE], arena: &mut [u8; ARENA]) -> State {
     let long = [b'a'; 4097];
+    let unknown = Err(Refusal::UnknownKind);
+    let full = Err(Refusal::DictionaryFull);
+    let too_long = Err(Refusal::TermTooLong);
     let mut s = lending(no_calls(), 33, 1337);
-    s = step(table, arena, s, 4, b"", kept(10, 0, 33, 1337));
-    s = step(table, arena, s, 0, b"", kept(10, 0, 33, 1337));
-    s = step(table, arena, s, 2, b"", kept(7, 0, 33, 1337));
-    s = step(table, arena, s, 1, &long, kept(11, 0, 33, 1337));
-    step(table, arena, s, 4, &long, kept(10, 0, 33, 1337))
+    s = step(table, arena, s, 4, b"", kept(unknown, 33, 1337));
+    s = step(table, arena, s, 0, b"", kept(unknown, 33, 1337));
+    s = step(table, arena, s, 2, b"", kept(full, 33, 1337));
+    s = step(table, arena, s, 1, &long, kept(too_long, 33, 1337));
+    step(table, arena, s, 4, &long, kept(unknown, 33, 1337))
 }
 
 // After `puts`: counters that are not the dictionary's are refused with 1, before an unknown kind, and stay. The right ones are taken.
 fn broken_counters(table: &mut [u32; TABLE], arena: &mut [u8; ARENA]) -> State {
+    let broken = Err(Refusal::BrokenDictionary);
     let mut s = lending(no_calls(), 32, 1337);
-    s = step(table, arena, s, 1, b"urn:t1", kept(1, 0, 32, 1337));
+    s = step(table, arena, s, 1, b"urn:t1", kept(broken, 32, 1337));
     s = lending(s.tally, 33, 1336);
-    s = step(table, arena, s, 1, b"urn:t1", kept(1, 0, 33, 1336));
+    s = step(table, arena, s, 1, b"urn:t1", kept(broken, 33, 1336));
     s = lending(s.tally, 0, 0);
-    s = step(table, arena, s, 4, b"", kept(1, 0, 0, 0));
+    s = step(table, arena, s, 4, b"", kept(broken, 0, 0));
     s = lending(s.tally, 33, 1337);
-    step(table, arena, s, 1, b"urn:t1", kept(0, 31, 33, 1337))
+    step(table, arena, s, 1, b"urn:t1", kept(Ok(Id(31)), 33, 1337))
 }
 
 // A term of 13 bytes, for which there is no room, and one of 12; then only a term of no bytes has room, and after it none.
 fn last_bytes(table: &mut [u32; TABLE], arena: &mut [u8; ARENA]) -> State {
+    let full = Err(Refusal::DictionaryFull);
     let mut s = begin(table, arena);
-    s = step(table, arena, s, 1, b"urn:123456789", kept(7, 0, 31, 1325));
+    s = step(table, arena, s, 1, b"urn:123456789", kept(full, 31, 1325));
     s = step(table, arena, s, 1, b"urn:12345678", new(31, 32, 1337));
-    s = step(table, arena, s, 2, b"b", kept(7, 0, 32, 1337));
+    s = step(table, arena, s, 2, b"b", kept(full, 32, 1337));
     s = step(table, arena, s, 3, b"", new(32, 33, 1337));
-    s = step(table, arena, s, 3, b"", kept(0, 32, 33, 1337));
-    step(table, arena, s, 2, b"", kept(7, 0, 33, 1337))
+    s = step(table, arena, s, 3, b"", kept(Ok(Id(32)), 33, 1337));
+    step(table, arena, s, 2, b"", kept(full, 33, 1337))
 }
 
-// Wrong on purpose, one thing in each call: that table and arena stay, the id, the terms, the used bytes, that they change, the number.
+// Wrong on purpose, one thing in each call: that table and arena stay, the id, the terms, the used bytes, that they change, the refusal.
 fn wrong_puts(table: &mut [u32; TABLE], arena: &mut [u8; ARENA]) -> State {
+    let unknown = Err(Refusal::UnknownKind);
     let mut s = begin(table, arena);
-    s = step(table, arena, s, 1, b"urn:t1", kept(0, 31, 32, 1331));
+    s = step(table, arena, s, 1, b"urn:t1", kept(Ok(Id(31)), 32, 1331));
     s = step(table, arena, s, 3, b"urn:t1", new(31, 33, 1337));
-    s = step(table, arena, s, 1, b"urn:t1", kept(0, 31, 34, 1337));
-    s = step(table, arena, s, 3, b"urn:t1", kept(0, 32, 33, 1343));
+    s = step(table, arena, s, 1, b"urn:t1", kept(Ok(Id(31)), 34, 1337));
+    s = step(table, arena, s, 3, b"urn:t1", kept(Ok(Id(32)), 33, 1343));
     s = step(table, arena, s, 1, b"urn:_", new(0, 33, 1337));
-    step(table, arena, s, 2, b"", kept(10, 0, 33, 1337))
+    step(table, arena, s, 2, b"", kept(unknown, 33, 1337))
 }
 
 fn print_puts(rt: &impl Print) -> io::Result<()> {
@@ -196,20 +197,14 @@ fn marks() -> [FindingRecord; 4] {
     [first, second, third, fourth]
 }
 
-fn same_finding(x: FindingRecord, y: FindingRecord) -> bool {
-    x.check == y.check && x.a == y.a && x.b == y.b && x.c == y.c && x.d == y.d
-}
-
-fn same_findings(x: [FindingRecord; 4], y: [FindingRecord; 4]) -> bool {
-    let first = same_finding(x[0], y[0]);
-    let second = same_finding(x[1], y[1]);
-    let third = same_finding(x[2], y[2]);
-    let fourth = same_finding(x[3], y[3]);
-    first && second && third && fourth
-}
-
 // The first m of the numbers of four findings, as findings in the first n of the marks: the answer, and the four records afterwards.
-fn filled(tally: Tally, m: usize, n: usize, number: u32, due: [FindingRecord; 4]) -> Tally
+fn filled(
+    tally: Tally,
+    m: usize,
+    n: usize,
+    answer: Result<(), Refusal>,
+    due: [FindingRecord; 4],
+) -> Tally
     requires m_bound { m ≤ 20 }
     requires n_bound { n ≤ 4 }
 {
@@ -218,8 +213,8 @@ fn filled(tally: Tally, m: usize, n: usize, number: u32, due: [FindingRecord; 4]
     ];
     let given = fill_lent(&numbers[..m], marks(), n);
     let records = given.records;
-    let agrees = given.number == number && same_findings(records, due);
-    tally.with(1, !agrees as u32)
+    let agrees = given.answer == answer && records == due;
+    tally.with(1, u32::from(!agrees))
 }
 
 // None, one, three and four findings.
@@ -231,10 +226,10 @@ fn accepted() -> Tally {
     let mark = finding(116, 117, 118, 119, 120);
     let mut one = marks();
     one[0] = first;
-    let mut t = filled(no_calls(), 0, 0, 0, marks());
-    t = filled(t, 5, 1, 0, one);
-    t = filled(t, 15, 3, 0, [first, second, third, mark]);
-    filled(t, 20, 4, 0, [first, second, third, fourth])
+    let mut t = filled(no_calls(), 0, 0, Ok(()), marks());
+    t = filled(t, 5, 1, Ok(()), one);
+    t = filled(t, 15, 3, Ok(()), [first, second, third, mark]);
+    filled(t, 20, 4, Ok(()), [first, second, third, fourth])
 }
 
 // A refusal with 4: all records stay.
@@ -242,7 +237,7 @@ fn refusal(tally: Tally, m: usize, n: usize) -> Tally
     requires m_bound { m ≤ 20 }
     requires n_bound { n ≤ 4 }
 {
-    filled(tally, m, n, 4, marks())
+    filled(tally, m, n, Err(Refusal::IllSizedStore), marks())
 }
 
 // Too few records, too many, and numbers that are no multiple of five.
@@ -267,10 +262,10 @@ fn wrong(tally: Tally, place: usize, f: FindingRecord) -> Tally
     let fourth = finding(3, 61, 62, 63, MOST);
     let mut due = [first, second, third, fourth];
     due[place] = f;
-    filled(tally, 20, 4, 0, due)
+    filled(tally, 20, 4, Ok(()), due)
 }
 
-// Wrong on purpose, one thing in each call: the number, and each field of a record, in each of the four places.
+// Wrong on purpose, one thing in each call: the answer, and each field of a record, in each of the four places.
 fn wrong_findings() -> Tally {
     let mut t = refusal(no_calls(), 0, 0);
     t = wrong(t, 0, finding(2, 31, 32, 33, 0));

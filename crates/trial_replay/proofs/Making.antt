@@ -1,23 +1,28 @@
 -- What the calls leave in a memory, from what each step leaves. Assumes nothing.
 use mathlib.Core.Path.{◌≡◌, refl, sym, ap, ◌∙◌}
-use mathlib.Core.Logic.{◌≢◌}
+use mathlib.Core.Bool.{Bool, true, false}
 use mathlib.Core.List.{List, ◌++◌}
-use Prim.Native.Nat.{ℕ, zero, suc, ◌+◌, ◌%◌, ◌≤◌, ◌<◌}
+use mir.Val.{bool_byte}
+use Prim.Native.Nat.{ℕ, zero, suc, ◌+◌, ◌%◌, ◌<◌}
 use native.Mathlib.Omega.{arith}
 use lib.Dec.{eqb}
 use lib.ListN.{length, get_or, set, take, drop}
 use lib.Seq.{ext_get_or}
-use borrow.Author.Tests.{lt-ltb, le-ltb, eq-eqb, ne_eqb}
+use Rattle.std.specs.Prelude.{Result, Ok, Err, IsOkAnd, MatchResult}
+use Rattle.common.specs.declared.refusal.Refusal.{Refusal}
 use Rattle.dictionary_layout.specs.declared.values.Counters.{Counters}
 use Rattle.dictionary_layout.specs.Terms.{term}
-use Rattle.dictionary_layout.specs.Layout.{Dict, span}
+use Rattle.dictionary_layout.specs.Layout.{span}
 use Rattle.dictionary_layout.specs.Values.{contents}
 use Rattle.dictionary_layout.specs.Dictionary.{LookupAnswer}
 use Rattle.dictionary_layout.specs.Calls.{StartResult, PutResult, start_gives, put_gives, lookup_gives}
 use Rattle.dictionary_layout.proofs.Decoding.{length_span}
 use Rattle.driver_refusals.specs.Lent.{Lent, lent}
+use Rattle.driver_load.specs.declared.values.RunAnswer.{RunAnswer}
 use Rattle.driver_run.specs.Run.{RunResult, run_gives}
-use Rattle.driver_turns.specs.Turns.{TurnResult, turn_gives, past, open_gives, pass_gives}
+use Rattle.driver_step.specs.declared.values.TurnAnswer.{TurnAnswer}
+use Rattle.driver_step.specs.Values.{run_part as run_answer, done_part}
+use Rattle.driver_turns.specs.Turns.{TurnResult, turn_gives, past}
 use Rattle.ntriples.specs.Reading.{ReadResult, read_gives}
 use Rattle.ntriples_canonical.specs.Calls.{WriteAnswer, write_gives}
 use Rattle.trial_buffers.specs.Memory.{cell_from, length_at, Each}
@@ -53,12 +58,19 @@ module _ (m : List ℕ) (at n : ℕ) {row : List ℕ} (e : length row ≡ n) whe
   unfolding bytes_from
   bytes_taken h = each_span _ n e h
 
--- a length that is a number of the memory, and one that is none
-pub narrow_fits : (n : ℕ) → n < 4294967296 → n ≡ narrowed n
-narrow_fits n h = let q = lt-ltb n 4294967296 h in rw q refl
+-- WHAT A CALL IN TURNS ANSWERS: the answer of its run, and whether it is done, as a number
+pub run_mapped : (r : Result TurnAnswer Refusal) (m : Result RunAnswer Refusal) {P : TurnAnswer → RunAnswer → Type 0} →
+    MatchResult r (λ x. IsOkAnd m (P x)) (λ e. m ≡ Err e) → ((x : TurnAnswer) (y : RunAnswer) → P x y → y ≡ x.run) →
+    m ≡ run_answer r
+run_mapped (Ok x) (Ok y) h f = ap Ok (f x y h)
+run_mapped (Ok x) (Err e) h f = absurd h
+run_mapped (Err e) m h f = h
 
-pub narrow_not : (n : ℕ) → 4294967296 ≤ n → 0 ≡ narrowed n
-narrow_not n h = let q = le-ltb n 4294967296 h in rw q refl
+pub done_number : (r : Result TurnAnswer Refusal) (b : Bool) {P : TurnAnswer → Type 0} →
+    MatchResult r P (λ _. b ≡ false) → ((x : TurnAnswer) → P x → b ≡ x.done) → bool_byte b ≡ done_part r
+done_number (Ok x) true h f = rw (← f x h) refl
+done_number (Ok x) false h f = rw (← f x h) refl
+done_number (Err e) b h f = rw h refl
 
 -- THE EIGHT CALLS
 module _ (m table arena : List ℕ) where
@@ -115,25 +127,6 @@ module _ (m table arena : List ℕ) where
         write_held (held m₃ table arena) a.page ≡ write_part (held m table arena) store page
     unfolding write_part
     write_is store page d e n f₁ f₂ f₃ = let e₁ = rw (c, d) at e in let f = rw c at f₃ in rw (f, f₂, f₁, n, ← e₁) refl
-
--- A CALL THAT IS LENT WHAT A RUN IS, by its number: a pass or an opening call
-module _ (call : ℕ) where
-  module _ (d : Dict) (b : Lent) {r : TurnResult} where
-    pub as_pass : call ≡ 6 → r ≡ pass_gives d b → r ≡ turn_gives (past (eqb call 6)) d b
-    as_pass z e = let q = eq-eqb call 6 z in rw q e
-
-    pub as_open : call ≢ 6 → r ≡ open_gives d b → r ≡ turn_gives (past (eqb call 6)) d b
-    as_open z e = let q = ne_eqb call 6 z in rw q e
-
-  -- a run or a call in turns
-  module _ (h : Held) (b : Lent) {r : RunHeld} where
-    pub as_whole : call ≡ 3 → r ≡ whole_part h b → r ≡ run_part call h b
-    unfolding run_part
-    as_whole z e = let q = eq-eqb call 3 z in rw q e
-
-    pub as_turn : call ≢ 3 → r ≡ turn_part call h b → r ≡ run_part call h b
-    unfolding run_part
-    as_turn z e = let q = ne_eqb call 3 z in rw q e
 
 -- in parts of its buffers
 module _ (call : ℕ) (h : Held) where
@@ -193,66 +186,6 @@ module _ (h : Held) where
       held m₁ r.held.table r.held.arena ≡ write_made h
   unfolding write_made
   write_made_is es ep e f₁ = let e₁ = rw (es, ep) at e in rw (f₁, ← e₁) refl
-
--- THE CALL with a number
-module _ (call : ℕ) (h : Held) {r : Held} where
-  pub on_start : call ≡ 0 → r ≡ start_made h → r ≡ made_on call h
-  unfolding made_on
-  on_start z e = let q = eq-eqb call 0 z in rw q e
-
-  module _ (n₀ : call ≢ 0) where
-    pub on_put : call ≡ 1 → r ≡ put_made h (bytes_from h.memory term_cells term_room) → r ≡ made_on call h
-    unfolding made_on
-    on_put z e = let q₀ = ne_eqb call 0 n₀ in let q = eq-eqb call 1 z in rw (q₀, q) e
-
-    module _ (n₁ : call ≢ 1) where
-      pub on_lookup : call ≡ 2 → r ≡ lookup_made h → r ≡ made_on call h
-      unfolding made_on
-      on_lookup z e = let q₀ = ne_eqb call 0 n₀ in let q₁ = ne_eqb call 1 n₁ in let q = eq-eqb call 2 z in rw (q₀, q₁, q) e
-
-      module _ (n₂ : call ≢ 2) where
-        pub on_read : call ≡ 4 → r ≡ read_made h → r ≡ made_on call h
-        unfolding made_on
-        on_read z e =
-            let q₀ = ne_eqb call 0 n₀ in
-            let q₁ = ne_eqb call 1 n₁ in
-            let q₂ = ne_eqb call 2 n₂ in
-            let q = eq-eqb call 4 z in
-            rw (q₀, q₁, q₂, q) e
-
-        module _ (n₄ : call ≢ 4) where
-          pub on_write : call ≡ 7 → r ≡ write_made h → r ≡ made_on call h
-          unfolding made_on
-          on_write z e =
-              let q₀ = ne_eqb call 0 n₀ in
-              let q₁ = ne_eqb call 1 n₁ in
-              let q₂ = ne_eqb call 2 n₂ in
-              let q₄ = ne_eqb call 4 n₄ in
-              let q = eq-eqb call 7 z in
-              rw (q₀, q₁, q₂, q₄, q) e
-
-          module _ (n₇ : call ≢ 7) where
-            pub on_run : call < 7 → r ≡ run_made call h → r ≡ made_on call h
-            unfolding made_on
-            on_run l e =
-                let q₀ = ne_eqb call 0 n₀ in
-                let q₁ = ne_eqb call 1 n₁ in
-                let q₂ = ne_eqb call 2 n₂ in
-                let q₄ = ne_eqb call 4 n₄ in
-                let q₇ = ne_eqb call 7 n₇ in
-                let q = lt-ltb call 7 l in
-                rw (q₀, q₁, q₂, q₄, q₇, q) e
-
-            pub on_none : 7 ≤ call → r ≡ h → r ≡ made_on call h
-            unfolding made_on
-            on_none l e =
-                let q₀ = ne_eqb call 0 n₀ in
-                let q₁ = ne_eqb call 1 n₁ in
-                let q₂ = ne_eqb call 2 n₂ in
-                let q₄ = ne_eqb call 4 n₄ in
-                let q₇ = ne_eqb call 7 n₇ in
-                let q = le-ltb call 7 l in
-                rw (q₀, q₁, q₂, q₄, q₇, q) e
 
 -- on parts of table and arena
 pub made_lent_is : (call : ℕ) (h : Held) {t a : ℕ} → t ≡ length_at h.memory table_length_cell (length h.table) →

@@ -3,9 +3,8 @@ use Rattle.std.specs.Prelude.{Bool, true, false, not, ◌&&◌, List, ◌++◌, 
 use Rattle.common.specs.Triples.{if}
 use Rattle.dictionary_layout.specs.Layout.{span}
 use Rattle.dictionary_layout.specs.Dictionary.{same_row}
-use Rattle.trial_buffers.specs.declared.reader.Read.{Read}
 use Rattle.trial_buffers.specs.declared.reader.Cursor.{Cursor}
-use Rattle.trial_buffers.specs.Reading.{read_from, cursor_after, number_after, any, is_byte}
+use Rattle.trial_buffers.specs.Reading.{Read, read_from, cursor_after, number_after, any, is_byte}
 use Rattle.trial_replay.specs.declared.lines.Turn.{Turn}
 use Rattle.trial_replay.specs.declared.lines.Span.{Span}
 use Rattle.trial_replay.specs.Made.{numbers_from, made}

@@ -1,7 +1,9 @@
 // The eight calls on a memory: each takes its arguments from the cells, and leaves there what it gives and the buffers as they are after
 // it.
 ghost use Rattle.std.specs.Prelude.{◌≡◌, eqb, length, get_or};
+ghost use Rattle.common.specs.Refusals.{answer_number};
 ghost use Rattle.dictionary_layout.specs.Values.{contents};
+ghost use Rattle.driver_load.specs.Values.{count_of, counts_of};
 ghost use Rattle.driver_refusals.specs.Lent.{lent};
 ghost use Rattle.driver_turns.specs.Turns.{turn_gives, past};
 ghost use Rattle.driver_turns.specs.Values.{turn_leaves};
@@ -11,7 +13,7 @@ ghost use Rattle.trial_replay.specs.Made.{run_held, whole_part, turn_part, run_p
 ghost use Rattle.trial_replay.specs.Made.{read_held, read_part, read_lent, read_made, write_held, write_part, write_lent};
 ghost use Rattle.trial_replay.specs.Made.{write_made, made_on, made_lent, made};
 
-use common::Id;
+use common::{Id, Refusal};
 use dictionary_index::{Counters, lookup, put_by_value, start};
 use driver_read::read;
 use driver_run::{RunAnswer, run};
@@ -118,13 +120,15 @@ fn answer(memory: &mut [u32], number: u32, counters: Counters)
     set_cell(memory, USED, counters.used);
 }
 
+// A refused start leaves no counters.
 fn make_start(memory: &mut [u32], table: &mut [u32], arena: &mut [u8])
     ensures { held memory.new table.new arena.new
         ≡ start_made (held memory.old table.old arena.old) }
 {
-    let started = start(table, arena);
-    let counters = started.counters;
-    answer(memory, started.number, counters);
+    match start(table, arena) {
+        Ok(counters) => answer(memory, 0, counters),
+        Err(refusal) => answer(memory, refusal.number(), Counters { terms: 0, used: 0 }),
+    }
 }
 
 fn put_term(memory: &mut [u32], table: &mut [u32], arena: &mut [u8], term: &[u8])
@@ -134,11 +138,16 @@ fn put_term(memory: &mut [u32], table: &mut [u32], arena: &mut [u8], term: &[u8]
     let counters = counters_in(&*memory);
     let kind = cell(&*memory, PUT_KIND);
     let n = length_in(&*memory, TERM_LENGTH, term.len());
-    let next = put_by_value(table, arena, counters, kind, &term[..n]);
-    let id = next.id;
-    let left = next.counters;
-    set_cell(&mut *memory, ID, id.0);
-    answer(memory, next.number, left);
+    match put_by_value(table, arena, counters, kind, &term[..n]) {
+        Ok(next) => {
+            set_cell(&mut *memory, ID, next.id.0);
+            answer(memory, 0, next.counters);
+        }
+        Err(refusal) => {
+            set_cell(&mut *memory, ID, 0);
+            answer(memory, refusal.number(), counters);
+        }
+    }
 }
 
 fn make_put(memory: &mut [u32], table: &mut [u32], arena: &mut [u8])
@@ -155,11 +164,7 @@ fn make_put(memory: &mut [u32], table: &mut [u32], arena: &mut [u8])
 fn narrow(length: usize) -> u32
     ensures { result ≡ narrowed length }
 {
-    if length < 4294967296 {
-        length as u32
-    } else {
-        0
-    }
+    u32::try_from(length).unwrap_or(0)
 }
 
 fn make_lookup(memory: &mut [u32], table: &[u32], arena: &[u8])
@@ -177,14 +182,21 @@ fn make_lookup(memory: &mut [u32], table: &[u32], arena: &[u8])
     answer(memory, number, counters);
 }
 
-fn answer_run(memory: &mut [u32], got: RunAnswer, counters: Counters)
+// What a run answers, with zeros in place of the counts of a refusal, and the counters after it.
+fn answer_run(memory: &mut [u32], got: Result<RunAnswer, Refusal>, counters: Counters)
     ensures { memory.new
-        ≡ answered (counted memory.old got.count got.counts) got.number counters.terms counters.used }
+        ≡ answered (counted memory.old (count_of got) (counts_of got)) (answer_number got) counters.terms counters.used }
 {
-    let counts = got.counts;
-    set_cell(&mut *memory, COUNT, got.count);
+    let (number, count, counts) = match got {
+        Ok(run) => {
+            let counts = run.counts;
+            (0, run.count, counts)
+        }
+        Err(refusal) => (refusal.number(), 0, [0; 5]),
+    };
+    set_cell(&mut *memory, COUNT, count);
     give_numbers(&mut *memory, COUNTS, &counts);
-    answer(memory, got.number, counters);
+    answer(memory, number, counters);
 }
 
 fn run_whole(
@@ -203,9 +215,7 @@ fn run_whole(
 {
     let counters = counters_in(&*memory);
     let next = run(table, arena, counters, load, store, findings, work);
-    let got = next.answer;
-    let left = next.counters;
-    answer_run(memory, got, left);
+    answer_run(memory, next.answer, next.counters);
 }
 
 // A pass for 6, an opening call for another number.
@@ -225,9 +235,10 @@ fn turn(
         store.old findings.old work.old) }
 {
     if call == 6 {
-        return pass(table, arena, counters, load, store, findings, work);
+        pass(table, arena, counters, load, store, findings, work)
+    } else {
+        open(table, arena, counters, load, store, findings, work)
     }
-    open(table, arena, counters, load, store, findings, work)
 }
 
 fn run_turn(
@@ -247,13 +258,13 @@ fn run_turn(
 {
     let counters = counters_in(&*memory);
     let next = turn(call, table, arena, counters, load, store, findings, work);
-    let got = next.answer;
-    let left = next.counters;
-    set_cell(&mut *memory, DONE, got.done);
-    answer_run(memory, got.run, left);
+    let done = next.answer.is_ok_and(|turn| turn.done);
+    set_cell(&mut *memory, DONE, u32::from(done));
+    answer_run(memory, next.answer.map(|turn| turn.run), next.counters);
 }
 
 // A run for 3, else a call in turns.
+#[tactic(auto, unfolding(crate::specs::Made::run_part))]
 fn run_load(
     call: u32,
     memory: &mut [u32],
@@ -271,9 +282,9 @@ fn run_load(
 {
     if call == 3 {
         run_whole(memory, table, arena, load, store, findings, work);
-        return;
+    } else {
+        run_turn(call, memory, table, arena, load, store, findings, work);
     }
-    run_turn(call, memory, table, arena, load, store, findings, work);
 }
 
 // Lends the call as much of each buffer as the memory says.
@@ -391,10 +402,13 @@ fn write_text(memory: &mut [u32], table: &[u32], arena: &[u8], store: &[u32], pa
 {
     let counters = counters_in(&*memory);
     let triples = cell(&*memory, TRIPLES);
-    let next = write(table, arena, counters, store, triples, page);
-    set_cell(&mut *memory, TEXT_LENGTH, narrow(next.used));
-    set_cell(&mut *memory, LEFT_OUT, next.left);
-    answer(memory, next.number, counters);
+    let (number, used, left) = match write(table, arena, counters, store, triples, page) {
+        Ok(next) => (0, next.used, next.left),
+        Err(refusal) => (refusal.number(), 0, 0),
+    };
+    set_cell(&mut *memory, TEXT_LENGTH, narrow(used));
+    set_cell(&mut *memory, LEFT_OUT, left);
+    answer(memory, number, counters);
 }
 
 // Lends a write as much of the store and of the page as the memory says.
@@ -421,32 +435,19 @@ fn make_write(memory: &mut [u32], table: &[u32], arena: &[u8])
 }
 
 // The call with a number, on this table and arena.
+#[tactic(auto, unfolding(crate::specs::Made::made_on))]
 fn make_on(call: u32, memory: &mut [u32], table: &mut [u32], arena: &mut [u8])
     ensures { held memory.new table.new arena.new
         ≡ made_on call (held memory.old table.old arena.old) }
 {
-    if call == 0 {
-        make_start(&mut *memory, &mut *table, &mut *arena);
-        return;
-    }
-    if call == 1 {
-        make_put(&mut *memory, &mut *table, &mut *arena);
-        return;
-    }
-    if call == 2 {
-        make_lookup(&mut *memory, &*table, &*arena);
-        return;
-    }
-    if call == 4 {
-        make_read(&mut *memory, &mut *table, &mut *arena);
-        return;
-    }
-    if call == 7 {
-        make_write(&mut *memory, &*table, &*arena);
-        return;
-    }
-    if call < 7 {
-        make_run(call, memory, table, arena);
+    match call {
+        0 => make_start(memory, table, arena),
+        1 => make_put(memory, table, arena),
+        2 => make_lookup(memory, &*table, &*arena),
+        4 => make_read(memory, table, arena),
+        7 => make_write(memory, &*table, &*arena),
+        3 | 5 | 6 => make_run(call, memory, table, arena),
+        _ => {}
     }
 }
 

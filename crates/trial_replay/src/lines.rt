@@ -1,14 +1,14 @@
 // A line of the text: what it does to the memories, and what it shows.
 ghost use Rattle.std.specs.Prelude.{◌≡◌, true, ◌≤◌};
-ghost use Rattle.trial_replay.specs.Text.{cells_from, span_from, edited, written, filled, edits, edited_by, one_if, difference};
+ghost use Rattle.trial_replay.specs.Text.{cells_from, span_from, edited, written, filled, edits, edited_by, difference};
 ghost use Rattle.trial_replay.specs.Text.{called, call_made, memories, kept_by, played, quiet_turn, line_played};
 
 use crate::calls::make;
-use dictionary_layout::bytes::same_numbers;
 use trial_buffers::memory::{fill, take_numbers};
-use trial_buffers::reader::{Cursor, Read, both, read_number, read_row};
+use trial_buffers::reader::{Cursor, read_number, read_row};
 
-// What a line showed: calls and differences, and the place after it, if it could be read.
+// What a line showed: calls and differences, the place after it, and whether it could be read. No Option: the rest is said too where a
+// number of the line could not be read.
 #[derive(Clone, Copy)]
 pub struct Turn {
     pub at: usize,
@@ -17,7 +17,8 @@ pub struct Turn {
     pub differences: u32,
 }
 
-// Cells of a memory, and the place in the text after their numbers.
+// Cells of a memory, the place in the text after their numbers, and whether these could be read and the memory has the cells. No Option:
+// the place, and the cells that unread numbers name, are said as well.
 #[derive(Clone, Copy)]
 struct Span {
     first: usize,
@@ -27,20 +28,17 @@ struct Span {
 }
 
 // The cells that a first cell and a number of cells name, if the memory has them.
+#[tactic(auto, unfolding(crate::specs::Text::cells_from))]
 fn cells_from(first: usize, n: usize, at: usize, ok: bool, cells: usize) -> Span
     ensures { (result ≡ cells_from first n at ok cells) × (result.first ≤ result.end) × (result.end ≤ cells) }
 {
-    let none = Span {
-        first: 0,
-        end: 0,
-        at,
-        ok: false,
-    };
-    if cells < first {
-        return none;
-    }
-    if cells - first < n {
-        return none;
+    if cells < first || cells - first < n {
+        return Span {
+            first: 0,
+            end: 0,
+            at,
+            ok: false,
+        };
     }
     Span {
         first,
@@ -55,13 +53,10 @@ fn read_span(text: &[u8], at: usize, cells: usize) -> Span
 {
     let first = read_number(text, at);
     let n = read_number(text, first.at);
-    cells_from(
-        first.value as usize,
-        n.value as usize,
-        n.at,
-        both(first.ok, n.ok),
-        cells,
-    )
+    let a = first.value.unwrap_or(0) as usize;
+    let count = n.value.unwrap_or(0) as usize;
+    let ok = first.value.is_some() && n.value.is_some();
+    cells_from(a, count, n.at, ok, cells)
 }
 
 // Writes the numbers of a line to its cells.
@@ -83,43 +78,38 @@ fn fill_cells(text: &[u8], at: usize, memory: &mut [u32]) -> Cursor
     let first = s.first;
     let end = s.end;
     let number = read_number(text, s.at);
-    fill(&mut memory[first..end], number.value);
+    fill(&mut memory[first..end], number.value.unwrap_or(0));
     Cursor {
         at: number.at,
-        ok: both(s.ok, number.ok),
+        ok: s.ok && number.value.is_some(),
     }
 }
 
 // Lines 0 to 3: cells of both memories or of the expected one.
+#[tactic(auto, unfolding(crate::specs::Text::edited_by))]
 fn edit(line: u32, text: &[u8], at: usize, memory: &mut [u32], expected: &mut [u32]) -> Cursor
     ensures { edits result memory.new expected.new
         ≡ edited_by line text.now at memory.old expected.old }
 {
-    if line == 0 {
-        write_cells(text, at, memory);
-        return write_cells(text, at, expected);
+    match line {
+        0 => {
+            write_cells(text, at, memory);
+            write_cells(text, at, expected)
+        }
+        1 => write_cells(text, at, expected),
+        2 => {
+            fill_cells(text, at, memory);
+            fill_cells(text, at, expected)
+        }
+        _ => fill_cells(text, at, expected),
     }
-    if line == 1 {
-        return write_cells(text, at, expected);
-    }
-    if line == 2 {
-        fill_cells(text, at, memory);
-        return fill_cells(text, at, expected);
-    }
-    fill_cells(text, at, expected)
-}
-
-fn one_if(b: bool) -> u32
-    ensures { result ≡ one_if b }
-{
-    if b { 1 } else { 0 }
 }
 
 // Whether the memories are not as a line says: they have to be the same for 0, and to differ for 1.
 fn is_difference(agrees: bool, differs: u32) -> bool
     ensures { result ≡ difference agrees differs }
 {
-    if agrees { differs == 1 } else { differs != 1 }
+    agrees == (differs == 1)
 }
 
 // Line 4: a call, and whether the memories are then as it says.
@@ -128,13 +118,16 @@ fn call(text: &[u8], at: usize, memory: &mut [u32], expected: &[u32]) -> Turn
 {
     let number = read_number(text, at);
     let differs = read_number(text, number.at);
-    make(number.value, &mut *memory);
-    let agrees = same_numbers(&*memory, expected);
+    let which = number.value.unwrap_or(0);
+    make(which, &mut *memory);
+    let agrees = *memory == *expected;
+    let difference = is_difference(agrees, differs.value.unwrap_or(0));
+    let ok = number.value.is_some() && differs.value.is_some();
     Turn {
         at: differs.at,
-        ok: both(number.ok, differs.ok),
-        calls: one_if(number.value < 8),
-        differences: one_if(is_difference(agrees, differs.value)),
+        ok,
+        calls: u32::from(which < 8),
+        differences: u32::from(difference),
     }
 }
 
@@ -146,10 +139,10 @@ fn keep(line: u32, at: usize, memory: &mut [u32], expected: &mut [u32], saved: &
 {
     if line == 5 {
         take_numbers(&*memory, 0, saved);
-        return Cursor { at, ok: true };
+    } else {
+        take_numbers(&*saved, 0, memory);
+        take_numbers(&*saved, 0, expected);
     }
-    take_numbers(&*saved, 0, memory);
-    take_numbers(&*saved, 0, expected);
     Cursor { at, ok: true }
 }
 
@@ -165,26 +158,23 @@ fn quiet(end: Cursor) -> Turn
     }
 }
 
-// The line whose first number was read.
+// The line whose first number is `which`, and was read.
+#[tactic(auto, unfolding(crate::specs::Text::line_played))]
 pub fn play_line(
     text: &[u8],
-    line: Read,
+    which: u32,
+    at: usize,
     memory: &mut [u32],
     expected: &mut [u32],
     saved: &mut [u32],
 ) -> Turn
     ensures { played result (memories memory.new expected.new saved.new)
-        ≡ line_played text.now line (memories memory.old expected.old saved.old) }
+        ≡ line_played text.now (record { value = which; at = at; ok = true })
+        (memories memory.old expected.old saved.old) }
 {
-    let at = line.at;
-    let which = line.value;
-    if which < 4 {
-        let end = edit(which, text, at, memory, expected);
-        return quiet(end);
+    match which {
+        0..=3 => quiet(edit(which, text, at, memory, expected)),
+        4 => call(text, at, memory, &*expected),
+        _ => quiet(keep(which, at, memory, expected, saved)),
     }
-    if which == 4 {
-        return call(text, at, memory, &*expected);
-    }
-    let end = keep(which, at, memory, expected, saved);
-    quiet(end)
 }

@@ -24,38 +24,39 @@ const TEXT: usize = 1000000;
 // The line that ends a list.
 const END: u32 = 7;
 
-// How far the text was played: the tally of the list, the place of the next line, whether all could be read.
+// How far the text was played: the tally of the list, and the place of the next line.
 #[derive(Clone, Copy)]
 struct Progress {
     tally: Tally,
     at: usize,
-    ok: bool,
 }
 
-// The end of a list, whose tally is printed.
-fn ended(rt: &impl Print, text: &[u8], at: usize, tally: Tally) -> io::Result<Progress> {
+// The end of a list, whose tally is printed, if it could be read.
+fn ended(rt: &impl Print, text: &[u8], at: usize, tally: Tally) -> io::Result<Option<Progress>> {
     let ended = end_list(rt, text, at, tally);
     ended.printed?;
-    Ok(Progress {
-        tally: no_calls(),
-        at: ended.end.at,
-        ok: ended.end.ok,
-    })
+    Ok(
+        ended.end.ok.then_some(Progress {
+            tally: no_calls(),
+            at: ended.end.at,
+        }),
+    )
 }
 
-// A line that was played.
-fn played(rt: &impl Print, turn: Turn, tally: Tally, line: usize) -> io::Result<Progress> {
+// A line that was played, if it could be read.
+fn played(rt: &impl Print, turn: Turn, tally: Tally, line: usize) -> io::Result<Option<Progress>> {
     if turn.differences != 0 {
         print_difference(rt, line)?;
     }
-    Ok(Progress {
-        tally: tally.with(turn.calls, turn.differences),
-        at: turn.at,
-        ok: turn.ok,
-    })
+    Ok(
+        turn.ok.then_some(Progress {
+            tally: tally.with(turn.calls, turn.differences),
+            at: turn.at,
+        }),
+    )
 }
 
-// Plays one line.
+// Plays one line, if it can be read.
 fn step(
     rt: &impl Print,
     text: &[u8],
@@ -64,21 +65,16 @@ fn step(
     memory: &mut [u32],
     expected: &mut [u32],
     saved: &mut [u32],
-) -> io::Result<Progress> {
-    let tally = before.tally;
+) -> io::Result<Option<Progress>> {
     let first = read_number(text, before.at);
-    if !first.ok {
-        return Ok(Progress {
-            tally,
-            at: before.at,
-            ok: false,
-        });
+    match first.value {
+        None => Ok(None),
+        Some(END) => ended(rt, text, first.at, before.tally),
+        Some(which) => {
+            let turn = play_line(text, which, first.at, memory, expected, saved);
+            played(rt, turn, before.tally, line)
+        }
     }
-    if first.value == END {
-        return ended(rt, text, first.at, tally);
-    }
-    let turn = play_line(text, first, memory, expected, saved);
-    played(rt, turn, tally, line)
 }
 
 // Plays the text: it has at most as many lines as bytes.
@@ -92,15 +88,12 @@ fn play(
     let mut progress = Progress {
         tally: no_calls(),
         at: 0,
-        ok: true,
     };
-    let mut line = 0;
-    while line < text.len() {
+    for line in 1..=text.len() {
         if text.len() <= progress.at {
             return Ok(());
         }
-        line += 1;
-        progress = step(
+        let next = step(
             rt,
             text,
             progress,
@@ -109,9 +102,10 @@ fn play(
             &mut *expected,
             &mut *saved,
         )?;
-        if !progress.ok {
-            return print_unreadable(rt, line);
-        }
+        progress = match next {
+            Some(next) => next,
+            None => return print_unreadable(rt, line),
+        };
     }
     Ok(())
 }

@@ -30,7 +30,8 @@ fn print_list(rt: &impl Print, name: &[u8], tally: Tally) -> io::Result<()> {
     println!(rt; ": calls {calls}, differences {differences}")
 }
 
-// The place after a line that ends a list, and whether what it prints could be printed.
+// The place after a line that ends a list, and whether what it prints could be printed. No Result of the place: it is said too where
+// printing failed.
 #[derive(Drop)]
 pub struct Ended {
     pub end: Cursor,
@@ -41,21 +42,19 @@ fn end_named(rt: &impl Print, text: &[u8], from: Cursor, name: &mut [u8], tally:
     ensures { result.end ≡ cursor_after is_byte text.now from (length name.old) }
 {
     let end = read_bytes(text, from, &mut *name);
-    if end.ok {
-        let printed = print_list(rt, &*name, tally);
-        return Ended { end, printed };
-    }
-    Ended {
-        end,
-        printed: Ok(()),
-    }
+    let printed = if end.ok {
+        print_list(rt, &*name, tally)
+    } else {
+        Ok(())
+    };
+    Ended { end, printed }
 }
 
 fn end_in(rt: &impl Print, text: &[u8], at: usize, room: &mut [u8], tally: Tally) -> Ended
     ensures { result.end ≡ list_end text.now at (length room.old) }
 {
     let length = read_number(text, at);
-    let n = length.value as usize;
+    let n = length.value.unwrap_or(0) as usize;
     if room.len() < n {
         return Ended {
             end: Cursor { at, ok: false },
@@ -64,7 +63,7 @@ fn end_in(rt: &impl Print, text: &[u8], at: usize, room: &mut [u8], tally: Tally
     }
     let from = Cursor {
         at: length.at,
-        ok: length.ok,
+        ok: length.value.is_some(),
     };
     end_named(rt, text, from, &mut room[..n], tally)
 }

@@ -7,7 +7,10 @@ use Prim.Native.Nat.{ℕ, ◌+◌, ◌<◌}
 use native.Mathlib.Omega.{arith}
 use lib.ListN.{length}
 use Rattle.common.specs.Triples.{Triple, In}
+use Rattle.std.proofs.Common.{Result, Ok, Err, MatchResult}
+use Rattle.store_rows.specs.declared.store.Full.{Full}
 use Rattle.store_rows.specs.declared.store.Pass.{Pass}
+use Rattle.store_rows.specs.Added.{rows_of}
 use Rattle.store_rows.specs.Rows.{load_at, load_rows}
 use Rattle.store_rows.specs.Store.{Good, Only, Extended}
 use Rattle.store_rows.proofs.Cases.{below_or, true_false}
@@ -67,3 +70,8 @@ module _ (load : List ℕ) where
       by : (f : Bool) → a.full ≡ f → Appended load (k + 1) l l₂ h₂ n₂
       by true e = record { full = true; rows = extended_iff (more k) (less k) (extended_full a.rows e same b) }
       by false e = record { full = _; rows = extended_iff (more k) (less k) (extended_then a.rows e b) }
+
+-- the rows that an answer of `add` says, full or not
+pub rows_unwrapped : (r : Result ℕ Full) (n : ℕ) → MatchResult r (λ m. n ≡ m) (λ f. n ≡ f.rows) → n ≡ rows_of r
+rows_unwrapped (Ok m) n e = e
+rows_unwrapped (Err f) n e = e

@@ -46,11 +46,9 @@ pub extern "C" fn rows_bench_append(
     ensures { Appended load.now count store.old store.new hash.new result }
 {
     let mut n = 0;
-    let mut k = 0;
-    while k < count {
-        let a = add(&mut *store, &mut *hash, n, ONE_PASS, 0, load_row(load, k));
-        n = a.n;
-        k += 1;
+    for k in 0..count {
+        let added = add(&mut *store, &mut *hash, n, ONE_PASS, 0, load_row(load, k));
+        n = added.unwrap_or_else(|full| full.rows);
     }
     n
 }

@@ -16,26 +16,25 @@ const TEXT: usize = 2000;
 // In place of a refusal: the start is accepted, and a term that is put is found again.
 const FOUND: u32 = 13;
 
-// A case: whether it came out as said, the place after it, if it could be read.
+// A case: whether it came out as said, and the place after it.
 #[derive(Clone, Copy)]
 struct Case {
     at: usize,
-    ok: bool,
     agrees: bool,
 }
 
-fn play(text: &[u8], at: usize) -> Case {
+// Plays the case that begins at a place, if its four numbers can be read.
+fn play(text: &[u8], at: usize) -> Option<Case> {
     let t = read_number(text, at);
     let a = read_number(text, t.at);
     let number = read_number(text, a.at);
     let differs = read_number(text, number.at);
-    let n = number.value;
-    let agrees = starts(t.value as usize, a.value as usize, n, n == FOUND);
-    Case {
+    let n = number.value?;
+    let agrees = starts(t.value? as usize, a.value? as usize, n, n == FOUND);
+    Some(Case {
         at: differs.at,
-        ok: t.ok && a.ok && number.ok && differs.ok,
-        agrees: agrees != (differs.value == 1),
-    }
+        agrees: agrees != (differs.value? == 1),
+    })
 }
 
 fn print_case(rt: &impl Print, what: &str, case: usize) -> io::Result<()> {
@@ -45,19 +44,16 @@ fn print_case(rt: &impl Print, what: &str, case: usize) -> io::Result<()> {
 // Plays the cases, of which there are at most as many as bytes.
 fn play_text(rt: &impl Print, text: &[u8]) -> io::Result<()> {
     let mut at = 0;
-    let mut case = 0;
-    while case < text.len() {
+    for case in 0..text.len() {
         if text.len() <= at {
             return print_case(rt, "starts: ", case);
         }
-        case += 1;
-        let played = play(text, at);
+        let Some(played) = play(text, at) else {
+            return print_case(rt, "cannot read case ", case + 1);
+        };
         at = played.at;
-        if !played.ok {
-            return print_case(rt, "cannot read case ", case);
-        }
         if !played.agrees {
-            print_case(rt, "not as said: case ", case)?;
+            print_case(rt, "not as said: case ", case + 1)?;
         }
     }
     Ok(())

@@ -1,8 +1,5 @@
-use Prim.Native.Nat.{◌+◌, ◌-◌}
-use native.Mathlib.Omega.{arith}
 use Rattle.dictionary_layout.specs.Terms.{term}
-use Rattle.dictionary_layout.specs.Digest.{bucket, bucket_count}
-use Rattle.dictionary_hash.proofs.Hashing.{Seeking, seek_start, seek_fits, seek_less, seek_more, seek_hit, seek_end}
+use Rattle.dictionary_hash.proofs.Hashing.{Seeking}
 use Rattle.dictionary_hash.proofs.find_entry.Given as goal
 
 abbrev pub invariant-loop-cur : goal.invariant-loop-cur

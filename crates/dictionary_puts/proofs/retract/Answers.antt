@@ -1,7 +1,6 @@
 -- `dictionary_puts::retract` meets its contract. Assumes nothing.
 use native.Mathlib.Omega.{arith}
-use Rattle.dictionary_layout.specs.Values.{contents}
-use Rattle.dictionary_puts.proofs.Retracting.{Left, left_all, left_valid, left_long, left_end, left_less, left_more}
+use Rattle.dictionary_puts.proofs.Retracting.{left_all, left_valid, left_long, left_end, left_less, left_more}
 use Rattle.dictionary_puts.proofs.retract.Goals as goal
 
 pub loop-left-init : goal.loop-left-init

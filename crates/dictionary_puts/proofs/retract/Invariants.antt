@@ -1,6 +1,5 @@
-use native.Mathlib.Omega.{arith}
 use Rattle.dictionary_layout.specs.Values.{contents}
-use Rattle.dictionary_puts.proofs.Retracting.{Left, left_all, left_valid, left_long, left_end, left_less, left_more}
+use Rattle.dictionary_puts.proofs.Retracting.{Left}
 use Rattle.dictionary_puts.proofs.retract.Given as goal
 
 abbrev pub invariant-loop-left : goal.invariant-loop-left

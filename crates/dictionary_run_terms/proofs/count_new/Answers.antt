@@ -1,8 +1,8 @@
 -- `dictionary_run_terms::count_new` meets its contract. Assumes nothing.
 use mathlib.Core.Path.{ap}
-use borrow.Author.Rules.{rules}
 use Rattle.dictionary_layout.specs.declared.values.Digest.{Digest}
 use Rattle.dictionary_layout.specs.Terms.{term}
+use Rattle.dictionary_layout.specs.Layout.{decode}
 use Rattle.dictionary_layout.specs.Values.{contents}
 use Rattle.dictionary_run_terms.proofs.Counting.{count_held, count_more}
 use Rattle.dictionary_run_terms.proofs.count_new.Goals as goal
@@ -15,25 +15,12 @@ pub find_term-requires : goal.find_term-requires
 find_term-requires c =
     record { unbroken = c.requires.unbroken; chained = ap (λ (x : Digest). x.chain) c.digest-chain.ensures }
 
-pub returns-then-find_term-counters : goal.returns-then-find_term-counters
-returns-then-find_term-counters c =
-    let d = contents c.args.table.now c.args.arena.now c.args.counters in
-    let t = term 1 c.args.iri.now in
-    count_held d c.requires.unbroken t c.args.sum c.find_term.result c.find_term.ensures
-    c.if-find_term-counters.true
+pub returns-in-Some : goal.returns-in-Some
+returns-in-Some c =
+    let ts = decode (contents c.args.table.now c.args.arena.now c.args.counters) in
+    count_held ts (term 1 c.args.iri.now) c.args.sum c.in-Some.ensures
 
-pub overflow_add-result : goal.overflow_add-result
-overflow_add-result c = search rules
-
-pub overflow_cast-result : goal.overflow_cast-result
-overflow_cast-result c = search rules
-
-pub overflow_add-result-2 : goal.overflow_add-result-2
-overflow_add-result-2 c = search rules
-
-pub returns : goal.returns
-returns c =
-    let d = contents c.args.table.now c.args.arena.now c.args.counters in
-    let t = term 1 c.args.iri.now in
-    count_more d c.requires.unbroken t c.args.sum c.find_term.result c.find_term.ensures
-    c.if-find_term-counters.false
+pub returns-in-None : goal.returns-in-None
+returns-in-None c =
+    let ts = decode (contents c.args.table.now c.args.arena.now c.args.counters) in
+    count_more ts (term 1 c.args.iri.now) c.args.sum c.in-None.ensures

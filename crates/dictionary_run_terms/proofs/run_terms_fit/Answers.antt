@@ -1,7 +1,5 @@
 -- `dictionary_run_terms::run_terms_fit` meets its contract. Assumes nothing.
-use mathlib.Core.Path.{refl}
 use native.Mathlib.Omega.{arith}
-use borrow.Author.Rules.{rules}
 use lib.Dec.{lit≤}
 use Rattle.dictionary_layout.specs.Terms.{property_term, membership_term, member_term}
 use Rattle.dictionary_layout.specs.Layout.{decode}
@@ -28,28 +26,16 @@ count_new-c-requires-3 c =
     c.count_new-c-2.ensures (lit≤ tt) (lit≤ tt) in
     countable d c.requires member_term.bytes c.count_new-c-2.result (lit≤ tt) b.0 b.1
 
-pub overflow_cast-c : goal.overflow_cast-c
-overflow_cast-c c = search rules
-
-pub overflow_mul-c : goal.overflow_mul-c
-overflow_mul-c c = search rules
-
-pub overflow_add-c : goal.overflow_add-c
-overflow_add-c c = search rules
-
-pub returns-then-table-c : goal.returns-then-table-c
-returns-then-table-c c =
+pub returns-else-c-table : goal.returns-else-c-table
+returns-else-c-table c =
     let d = contents c.args.table.now c.args.arena.now c.args.counters in
     run_no_entry d c.requires c.count_new-c-3.result
     (counted_three (decode d) c.args.counters c.count_new-c.ensures c.count_new-c-2.ensures
-    c.count_new-c-3.ensures) c.if-table-c.true
+    c.count_new-c-3.ensures) c.if-c-table.false
 
-pub overflow_cast-result : goal.overflow_cast-result
-overflow_cast-result c = search rules
-
-pub returns : goal.returns
-returns c =
+pub returns-then-c-table : goal.returns-then-c-table
+returns-then-c-table c =
     let d = contents c.args.table.now c.args.arena.now c.args.counters in
     run_by_bytes d c.requires c.count_new-c-3.result
     (counted_three (decode d) c.args.counters c.count_new-c.ensures c.count_new-c-2.ensures
-    c.count_new-c-3.ensures) c.if-table-c.false
+    c.count_new-c-3.ensures) c.if-c-table.true

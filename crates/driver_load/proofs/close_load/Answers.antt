@@ -1,64 +1,32 @@
 -- `driver_load::close_load` meets its contract. Assumes nothing.
-use mathlib.Core.Path.{refl, sym, ◌∙◌}
+use mathlib.Core.Path.{refl}
 use Prim.Native.Nat.{ℕ}
 use lib.ListN.{length-replicate}
+use Rattle.std.proofs.lemmas.Result.{err_from_is_err_and}
 use Rattle.store_rows.specs.Layout.{roles_length}
 use Rattle.driver_load.proofs.Loading.{no_rows, start_full, closes_load}
 use Rattle.driver_load.proofs.Terming.{loadable, started, listable, load_lists, closable}
-use borrow.Author.Rules.{rules}
 use Rattle.driver_load.proofs.close_load.Goals as goal
 
-pub start_rows-a-requires : goal.start_rows-a-requires
-start_rows-a-requires c =
+pub start_rows-requires : goal.start_rows-requires
+start_rows-requires c =
     (no_rows c.requires.1.few c.requires.2, loadable c.requires.0 c.requires.1, c.requires.0.sound)
 
-pub shape_of-store-then-a : goal.shape_of-store-then-a
-shape_of-store-then-a c =
-    c.start_rows-a.auto.store
-
-pub shape_of-hash-then-a : goal.shape_of-hash-then-a
-shape_of-hash-then-a c =
-    c.start_rows-a.auto.hash
-
-pub returns-then-a : goal.returns-then-a
-returns-then-a c =
-    start_full _ _ (started c.requires.0 c.requires.1 c.start_rows-a.ensures) c.if-a.true
-
-pub overflow_cast-counters : goal.overflow_cast-counters
-overflow_cast-counters c = search rules
+pub returns-in_err-n : goal.returns-in_err-n
+returns-in_err-n c =
+    let p = err_from_is_err_and c.from_residual.result c.from_residual.ensures.1 in rw (p.1, p.2)
+    (start_full _ _ (started c.requires.0 c.requires.1 c.in_err-n.ensures) refl)
 
 pub new-requires : goal.new-requires
 new-requires c =
     listable c.requires.0 c.requires.1 refl c.requires.2
 
-pub table-rules-requires : goal.table-rules-requires
-table-rules-requires c = tt
-
-pub slice_bounds-close-end : goal.slice_bounds-close-end
-slice_bounds-close-end c = sym (length-replicate {A = ℕ} roles_length 0)
-
 pub close-requires : goal.close-requires
 close-requires c =
-    closable c.requires.0 c.requires.1 c.start_rows-a.ensures refl c.requires.2 c.table-rules.ensures c.new.ensures
+    closable c.requires.0 c.requires.1 c.in_ok-n.ensures refl c.requires.2 c.table-rules.ensures c.new.ensures
     (length-replicate {A = ℕ} roles_length 0)
-
-pub shape_of-store : goal.shape_of-store
-shape_of-store c =
-    c.close.auto.store ∙ c.start_rows-a.auto.store
-
-pub shape_of-hash : goal.shape_of-hash
-shape_of-hash c =
-    c.close.auto.hash ∙ c.start_rows-a.auto.hash
-
-pub shape_of-ix : goal.shape_of-ix
-shape_of-ix c =
-    c.close.auto.ix ∙ c.new.auto.ix
-
-pub shape_of-work : goal.shape_of-work
-shape_of-work c =
-    c.new.auto.work
 
 pub returns : goal.returns
 returns c =
-    closes_load _ _ (started c.requires.0 c.requires.1 c.start_rows-a.ensures) c.if-a.false
+    closes_load _ _ (started c.requires.0 c.requires.1 c.in_ok-n.ensures) refl
     (load_lists c.requires.0 c.requires.1 c.new.ensures) c.close.ensures

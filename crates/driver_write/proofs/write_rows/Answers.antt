@@ -1,9 +1,8 @@
 -- `write_rows` meets its contract. Assumes nothing.
-use mathlib.Core.Path.{sym}
+use mathlib.Core.Path.{sym, refl}
 use Prim.Native.Nat.{ℕ}
 use native.Mathlib.Omega.{arith}
 use lib.ListN.{length-replicate}
-use borrow.Author.Rules.{rules}
 use Rattle.common.specs.Sizes.{entry_limit, term_limit}
 use Rattle.dictionary_layout.specs.Values.{contents}
 use Rattle.driver_write.specs.Lines.{all_lines}
@@ -26,29 +25,11 @@ term_lengths-requires c =
       chars = rw (length-replicate {A = ℕ} term_limit 0) (omega arith);
     }
 
-pub slice_bounds-measure-end : goal.slice_bounds-measure-end
-slice_bounds-measure-end c = search rules
-
-pub measure-all-requires : goal.measure-all-requires
-measure-all-requires c = search rules
-
-pub clear_bytes-requires : goal.clear_bytes-requires
-clear_bytes-requires c = search rules
-
-pub refused-requires : goal.refused-requires
-refused-requires c = search rules
-
-pub shape_of-page-then-page-all : goal.shape_of-page-then-page-all
-shape_of-page-then-page-all c = search rules
-
 pub returns-then-page-all : goal.returns-then-page-all
 returns-then-page-all c =
     page_small c.args.page.now (all_lines (contents c.args.table.now c.args.arena.now c.args.counters) c.args.store.now)
-    c.measure-all.ensures c.if-page-all.true c.refused.ensures
+    c.measure-all.ensures c.if-page-all.true refl
     c.clear_bytes.ensures
-
-pub slice_bounds-put_lines-end : goal.slice_bounds-put_lines-end
-slice_bounds-put_lines-end c = search rules
 
 pub put_lines-end-requires : goal.put_lines-end-requires
 put_lines-end-requires c =
@@ -68,15 +49,6 @@ pub slice_bounds-clear_bytes-start : goal.slice_bounds-clear_bytes-start
 slice_bounds-clear_bytes-start c =
     end_within c.args.page.now (all_lines (contents c.args.table.now c.args.arena.now c.args.counters) c.args.store.now)
     c.measure-all.ensures c.if-page-all.false c.put_lines-end.ensures
-
-pub slice_bounds-clear_bytes-end : goal.slice_bounds-clear_bytes-end
-slice_bounds-clear_bytes-end c = search rules
-
-pub clear_bytes-requires-2 : goal.clear_bytes-requires-2
-clear_bytes-requires-2 c = search rules
-
-pub shape_of-page : goal.shape_of-page
-shape_of-page c = search rules
 
 pub returns : goal.returns
 returns c =

@@ -2,7 +2,6 @@
 use mathlib.Core.Path.{sym}
 use Prim.Native.Nat.{ℕ}
 use lib.ListN.{length-replicate}
-use borrow.Author.Rules.{rules}
 use Rattle.common.specs.Sizes.{table_limit}
 use Rattle.edge_c.proofs.Forwarding.{table_array}
 use Rattle.edge_c.proofs.tablestork_lookup.Goals as goal
@@ -12,12 +11,6 @@ slice_bounds-lookup_in-end c = sym (length-replicate {A = ℕ} table_limit 0)
 
 pub lookup_in-place-requires : goal.lookup_in-place-requires
 lookup_in-place-requires c = table_array
-
-pub overflow_cast-begin : goal.overflow_cast-begin
-overflow_cast-begin c = search rules
-
-pub overflow_cast-len : goal.overflow_cast-len
-overflow_cast-len c = search rules
 
 pub returns : goal.returns
 returns c =

@@ -5,6 +5,7 @@ use lib.ListN.{length-replicate}
 use Rattle.common.specs.Sizes.{table_limit}
 use Rattle.edge_c.specs.Forwarded.{longest_store, longest_findings, longest_work, load_array}
 use Rattle.edge_c.proofs.Forwarding.{arrays}
+use Rattle.edge_c.proofs.Passes.{done_byte}
 use Rattle.edge_c.proofs.tablestork_pass.Goals as goal
 
 pub slice_bounds-turn_in-end : goal.slice_bounds-turn_in-end
@@ -25,20 +26,8 @@ slice_bounds-turn_in-end-5 c = sym (length-replicate {A = ℕ} longest_work 0)
 pub turn_in-next-requires : goal.turn_in-next-requires
 turn_in-next-requires c = arrays
 
-pub shape_of-table : goal.shape_of-table
-shape_of-table c = c.turn_in-next.auto.table
+pub returns-in-Ok : goal.returns-in-Ok
+returns-in-Ok c = rw (c.from.ensures, done_byte c.in-Ok.answer.done) (rw c.in-Ok.is at c.turn_in-next.ensures)
 
-pub shape_of-arena : goal.shape_of-arena
-shape_of-arena c = c.turn_in-next.auto.arena
-
-pub shape_of-store : goal.shape_of-store
-shape_of-store c = c.turn_in-next.auto.store
-
-pub shape_of-findings : goal.shape_of-findings
-shape_of-findings c = c.turn_in-next.auto.findings
-
-pub shape_of-work : goal.shape_of-work
-shape_of-work c = c.turn_in-next.auto.work
-
-pub returns : goal.returns
-returns c = c.turn_in-next.ensures
+pub returns-in-Err : goal.returns-in-Err
+returns-in-Err c = rw c.number.ensures (rw c.in-Err.is at c.turn_in-next.ensures)

@@ -9,17 +9,5 @@ use Rattle.edge_c.proofs.tablestork_put.Goals as goal
 pub slice_bounds-put_in-end : goal.slice_bounds-put_in-end
 slice_bounds-put_in-end c = sym (length-replicate {A = ℕ} table_limit 0)
 
-pub put_in-next-requires : goal.put_in-next-requires
-put_in-next-requires c = table_array
-
-pub shape_of-table : goal.shape_of-table
-shape_of-table c =
-    c.put_in-next.auto.table
-
-pub shape_of-arena : goal.shape_of-arena
-shape_of-arena c =
-    c.put_in-next.auto.arena
-
-pub returns : goal.returns
-returns c =
-    c.put_in-next.ensures
+pub put_in-requires : goal.put_in-requires
+put_in-requires c = table_array

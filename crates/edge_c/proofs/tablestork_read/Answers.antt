@@ -16,14 +16,5 @@ slice_bounds-read_in-end-2 c = sym (length-replicate {A = ℕ} full_array 0)
 pub read_in-next-requires : goal.read_in-next-requires
 read_in-next-requires c = both_arrays
 
-pub shape_of-table : goal.shape_of-table
-shape_of-table c = c.read_in-next.auto.table
-
-pub shape_of-arena : goal.shape_of-arena
-shape_of-arena c = c.read_in-next.auto.arena
-
-pub shape_of-load : goal.shape_of-load
-shape_of-load c = c.read_in-next.auto.load
-
 pub returns : goal.returns
 returns c = c.read_in-next.ensures

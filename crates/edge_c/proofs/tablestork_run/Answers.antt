@@ -25,20 +25,8 @@ slice_bounds-run_in-end-5 c = sym (length-replicate {A = ℕ} longest_work 0)
 pub run_in-next-requires : goal.run_in-next-requires
 run_in-next-requires c = arrays
 
-pub shape_of-table : goal.shape_of-table
-shape_of-table c = c.run_in-next.auto.table
+pub returns-in-Ok : goal.returns-in-Ok
+returns-in-Ok c = rw c.in-Ok.is at c.run_in-next.ensures
 
-pub shape_of-arena : goal.shape_of-arena
-shape_of-arena c = c.run_in-next.auto.arena
-
-pub shape_of-store : goal.shape_of-store
-shape_of-store c = c.run_in-next.auto.store
-
-pub shape_of-findings : goal.shape_of-findings
-shape_of-findings c = c.run_in-next.auto.findings
-
-pub shape_of-work : goal.shape_of-work
-shape_of-work c = c.run_in-next.auto.work
-
-pub returns : goal.returns
-returns c = c.run_in-next.ensures
+pub returns-in-Err : goal.returns-in-Err
+returns-in-Err c = rw c.number.ensures (rw c.in-Err.is at c.run_in-next.ensures)

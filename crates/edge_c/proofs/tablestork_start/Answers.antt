@@ -9,17 +9,5 @@ use Rattle.edge_c.proofs.tablestork_start.Goals as goal
 pub slice_bounds-start_in-end : goal.slice_bounds-start_in-end
 slice_bounds-start_in-end c = sym (length-replicate {A = ℕ} table_limit 0)
 
-pub start_in-started-requires : goal.start_in-started-requires
-start_in-started-requires c = table_array
-
-pub shape_of-table : goal.shape_of-table
-shape_of-table c =
-    c.start_in-started.auto.table
-
-pub shape_of-arena : goal.shape_of-arena
-shape_of-arena c =
-    c.start_in-started.auto.arena
-
-pub returns : goal.returns
-returns c =
-    c.start_in-started.ensures
+pub start_in-requires : goal.start_in-requires
+start_in-requires c = table_array

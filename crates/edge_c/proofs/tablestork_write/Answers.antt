@@ -13,11 +13,5 @@ slice_bounds-write_in-end c = sym (length-replicate {A = ℕ} table_limit 0)
 pub slice_bounds-write_in-end-2 : goal.slice_bounds-write_in-end-2
 slice_bounds-write_in-end-2 c = sym (length-replicate {A = ℕ} longest_store 0)
 
-pub write_in-next-requires : goal.write_in-next-requires
-write_in-next-requires c = store_arrays
-
-pub shape_of-page : goal.shape_of-page
-shape_of-page c = c.write_in-next.auto.page
-
-pub returns : goal.returns
-returns c = c.write_in-next.ensures
+pub write_in-written-requires : goal.write_in-written-requires
+write_in-written-requires c = store_arrays

@@ -4,14 +4,7 @@ use native.Mathlib.Omega.{arith}
 use lib.ListN.{length}
 use Rattle.edge_closer_text.specs.Sizes.{input_length}
 use Rattle.edge_closer_run.proofs.Printing.{output_read}
-use borrow.Author.Rules.{rules}
 use Rattle.edge_closer_run.proofs.close_read.Goals as goal
-
-pub close_first-requires : goal.close_first-requires
-close_first-requires c = search rules
-
-pub shape_of-out : goal.shape_of-out
-shape_of-out c = search rules
 
 pub returns : goal.returns
 returns c =

@@ -1,49 +1,22 @@
 -- `print_run` meets its contract. Assumes nothing.
 use native.Mathlib.Omega.{arith}
-use Rattle.edge_closer_run.proofs.Printing.{refusal_printed, run_counted, answer_fits, answer_printed, wrote_as}
-use borrow.Author.Rules.{rules}
+use Rattle.edge_closer_run.proofs.Printing.{ran_with, refusal_printed, run_counted, answer_fits, answer_printed, wrote_as}
 use Rattle.edge_closer_run.proofs.print_run.Goals as goal
 
-pub slice_bounds-run_input-end : goal.slice_bounds-run_input-end
-slice_bounds-run_input-end c = search rules
-
-pub slice_bounds-run_input-end-2 : goal.slice_bounds-run_input-end-2
-slice_bounds-run_input-end-2 c = search rules
-
-pub run_input-answer-requires : goal.run_input-answer-requires
-run_input-answer-requires c = search rules
-
-pub print_refusal-requires : goal.print_refusal-requires
-print_refusal-requires c = search rules
-
-pub shape_of-out-then-answer-ne0 : goal.shape_of-out-then-answer-ne0
-shape_of-out-then-answer-ne0 c = search rules
-
-pub returns-then-answer-ne0 : goal.returns-then-answer-ne0
-returns-then-answer-ne0 c =
-    wrote_as (refusal_printed c.args.count c.args.load.now c.run_input-answer.ensures
-    c.if-answer-ne0.true) c.print_refusal.ensures
-
 pub total-records-requires : goal.total-records-requires
-total-records-requires c =
-    run_counted c.args.count c.args.load.now c.run_input-answer.ensures c.if-answer-ne0.false
-
-pub slice_bounds-print_answer-end : goal.slice_bounds-print_answer-end
-slice_bounds-print_answer-end c = search rules
-
-pub slice_bounds-print_answer-end-2 : goal.slice_bounds-print_answer-end-2
-slice_bounds-print_answer-end-2 c = search rules
+total-records-requires c = run_counted c.args.count c.args.load.now (ran_with c.in-Ok.is c.run_input.ensures)
 
 pub print_answer-requires : goal.print_answer-requires
 print_answer-requires c =
-    let l = c.run_input-answer in
-    answer_fits c.args.count c.args.load.now l.ensures c.if-answer-ne0.false c.total-records.ensures
+    answer_fits c.args.count c.args.load.now (ran_with c.in-Ok.is c.run_input.ensures) c.total-records.ensures
     (omega arith) (omega arith) (omega arith)
 
-pub shape_of-out : goal.shape_of-out
-shape_of-out c = search rules
+pub returns-in-Ok : goal.returns-in-Ok
+returns-in-Ok c =
+    let run = ran_with c.in-Ok.is c.run_input.ensures in
+    wrote_as (answer_printed c.args.count c.args.load.now run c.total-records.ensures) c.print_answer.ensures
 
-pub returns : goal.returns
-returns c =
-    wrote_as (answer_printed c.args.count c.args.load.now c.run_input-answer.ensures
-    c.if-answer-ne0.false c.total-records.ensures) c.print_answer.ensures
+pub returns-in-Err : goal.returns-in-Err
+returns-in-Err c =
+    let run = ran_with c.in-Err.is c.run_input.ensures in
+    wrote_as (refusal_printed c.args.count c.args.load.now run (omega arith)) c.print_refusal.ensures

@@ -1,64 +1,33 @@
 -- `put_names` meets its contract. Assumes nothing.
-use Prim.Native.Nat.{ℕ, ◌-◌, ◌≤◌}
-use mathlib.Core.Path.{◌≡◌, ap, ◌∙◌}
-use lib.ListN.{length}
-use native.Mathlib.Omega.{arith}
-use borrow.Author.Rules.{rules}
+use Rattle.std.proofs.Common.{◌≡◌, ◌-◌, ◌+◌, ap, ◌∙◌, arith, rules}
 use Rattle.dictionary_layout.specs.Values.{contents}
-use Rattle.dictionary_index.specs.Values.{put_left}
+use Rattle.dictionary_index.specs.Values.{put_lent}
 use Rattle.edge_decimal.proofs.Writing.{wrote_front}
-use Rattle.edge_closer_text.specs.Sizes.{name_width}
 use Rattle.edge_closer_run.specs.Program.{named}
-use Rattle.edge_closer_run.proofs.Names.{no_names, next_name}
+use Rattle.edge_closer_run.proofs.Names.{left_contents, no_names, next_name}
 use Rattle.edge_closer_run.proofs.put_names.Goals as goal
+use Rattle.edge_closer_run.proofs.put_names.Goals.{After-put}
+
+-- the dictionary after one name more
+put : (c : After-put) → contents c.put.new.table c.put.new.arena c.put.new.counters
+    ≡ named c.loop-n.n (contents c.args.table.now c.args.arena.now c.args.counters)
+put c =
+    let p = c.put in
+    let l = c.loop-n in
+    let z = c.args in
+    left_contents p.result p.new.table p.new.arena p.new.counters
+    ∙ next_name (l.n - 1) l.n (contents z.table.now z.arena.now z.counters) (contents l.table l.arena l.left) _
+    (put_lent p.result p.new.table p.new.arena p.new.counters) (omega arith) l.invariant.4 (wrote_front c.print_name-end.ensures) p.ensures
 
 pub loop-n-init : goal.loop-n-init
 loop-n-init c = (search rules, search rules, search rules, search rules, no_names _)
 
-pub overflow_add-n : goal.overflow_add-n
-overflow_add-n c = search rules
-
-pub slice_bounds-print_name-end : goal.slice_bounds-print_name-end
-slice_bounds-print_name-end c = search rules
-
-pub print_name-end-requires : goal.print_name-end-requires
-print_name-end-requires c = search rules
-
-pub slice_bounds-name-end : goal.slice_bounds-name-end
-slice_bounds-name-end c = search rules
-
-pub slice_bounds-put_by_value-end : goal.slice_bounds-put_by_value-end
-slice_bounds-put_by_value-end c = search rules
-
-pub put_by_value-put-requires : goal.put_by_value-put-requires
-put_by_value-put-requires c = search rules
-
-pub loop-n-smaller : goal.loop-n-smaller
-loop-n-smaller c = search rules
-
 pub loop-n-preserved : goal.loop-n-preserved
 loop-n-preserved c =
-    let p = c.put_by_value-put in
-    let l = c.loop-n in
-    let z = c.args in (
-      omega arith,
-      search rules,
-      search rules,
-      search rules,
-      next_name l.n (contents z.table.now z.arena.now z.counters) (contents l.table l.arena l.left) _
-          (put_left p.result p.new.table p.new.arena) l.invariant.4 (wrote_front c.print_name-end.ensures)
-          p.ensures,
-    )
+    let e : c.loop-n.n + 1 - 1 ≡ c.loop-n.n = omega arith in
+    (omega arith, search rules, search rules, search rules, rw e (put (goal.at.loop-n-preserved c).After-put))
 
-pub shape_of-table : goal.shape_of-table
-shape_of-table c = search rules
-
-pub shape_of-arena : goal.shape_of-arena
-shape_of-arena c = search rules
-
-pub returns : goal.returns
-returns c =
-    let l = c.loop-n in
+pub returns-2 : goal.returns-2
+returns-2 c =
     let z = c.args in
-    let e : l.n ≡ z.count = omega arith in
-    l.invariant.4 ∙ ap (λ (k : ℕ). named k (contents z.table.now z.arena.now z.counters)) e
+    put (goal.at.returns-2 c).After-put ∙ ap (λ k. named k (contents z.table.now z.arena.now z.counters)) (omega arith)

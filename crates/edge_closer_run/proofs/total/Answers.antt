@@ -1,35 +1,21 @@
 -- `total` meets its contract. Assumes nothing.
-use native.Mathlib.Omega.{arith}
-use Rattle.edge_closer_run.proofs.Printing.{five_sum}
-use borrow.Author.Rules.{rules}
+use Rattle.std.proofs.Common.{◌≡◌, ℕ, List, sum, sym, refl, ◌∙◌, arith}
+use Rattle.std.proofs.lemmas.Iterator.{YieldsList-from_slice}
+use Rattle.std.proofs.lemmas.List.Recursion.{is_sum_by}
+use Rattle.std.proofs.lemmas.Iterator.Consumers.{sum_from_yields_List, fits_from_yields_list}
+use Rattle.meaning.specs.Closure.{total}
 use Rattle.edge_closer_run.proofs.total.Goals as goal
 
-pub bounds-counts-0 : goal.bounds-counts-0
-bounds-counts-0 c = search rules
+-- a total is std's sum
+total_sum : (l : List ℕ) → total l ≡ sum l
+total_sum l = is_sum_by total (λ n. n) refl (λ n ns. refl) l
 
-pub bounds-counts-1 : goal.bounds-counts-1
-bounds-counts-1 c = search rules
-
-pub overflow_add-result : goal.overflow_add-result
-overflow_add-result c = omega (arith, five_sum c.args.counts c.requires.0)
-
-pub bounds-counts-2 : goal.bounds-counts-2
-bounds-counts-2 c = search rules
-
-pub overflow_add-result-2 : goal.overflow_add-result-2
-overflow_add-result-2 c = omega (arith, five_sum c.args.counts c.requires.0)
-
-pub bounds-counts-3 : goal.bounds-counts-3
-bounds-counts-3 c = search rules
-
-pub overflow_add-result-3 : goal.overflow_add-result-3
-overflow_add-result-3 c = omega (arith, five_sum c.args.counts c.requires.0)
-
-pub bounds-counts-4 : goal.bounds-counts-4
-bounds-counts-4 c = search rules
-
-pub overflow_add-result-4 : goal.overflow_add-result-4
-overflow_add-result-4 c = omega (arith, five_sum c.args.counts c.requires.0)
+pub sum-requires-clause-fits : goal.sum-requires-clause-fits
+sum-requires-clause-fits c =
+    fits_from_yields_list c.iter.result _ (YieldsList-from_slice c.args.counts c.iter.ensures.rest)
+    (omega (arith, total_sum c.args.counts))
 
 pub returns : goal.returns
-returns c = omega (arith, five_sum c.args.counts c.requires.0)
+returns c =
+    sum_from_yields_List c.iter.result _ c.sum.ensures.ran (YieldsList-from_slice c.args.counts c.iter.ensures.rest)
+    ∙ sym (total_sum c.args.counts)

@@ -1,60 +1,50 @@
 -- `engine_checks::check_of` meets its contract. Assumes nothing.
-use mathlib.Core.Path.{refl, sym}
-use borrow.Author.Tests.{eq-eqb, ne_eqb}
+use Rattle.std.proofs.Common.{◌≡◌, rules}
 use Rattle.common.specs.Values.{triple_of}
+use Rattle.common.specs.Vocabulary.{type, Nothing, IrreflexiveProperty, AsymmetricProperty, disjointWith, propertyDisjointWith}
 use Rattle.engine_checks.specs.declared.CheckKind.TheVariants.{CaxDw, PrpIrp, PrpAsyp, PrpPdw, ClsNothing2}
-use Rattle.engine_checks.specs.Pairs.{check_of}
-use Rattle.engine_checks.proofs.Pairing.{axiom_kind}
+use Rattle.engine_checks.proofs.Pairing.{kind_some, kind_typed, kind_other}
 use Rattle.engine_checks.proofs.check_of.Goals as goal
 
-pub returns-then-t : goal.returns-then-t
-returns-then-t c =
-    record { is = sym (axiom_kind CaxDw (triple_of c.args.t) c.if-t.true); stated = λ _. c.if-t.true }
+pub returns-in-OWL_DISJOINT_WITH-default : goal.returns-in-OWL_DISJOINT_WITH-default
+returns-in-OWL_DISJOINT_WITH-default c =
+    let p : c.args.t.p.0 ≡ disjointWith = search rules in
+    kind_some CaxDw (triple_of c.args.t) p
 
-pub returns-then-t-2 : goal.returns-then-t-2
-returns-then-t-2 c =
-    record { is = sym (axiom_kind PrpPdw (triple_of c.args.t) c.if-t-2.true); stated = λ _. c.if-t-2.true }
+pub returns-in-OWL_PROPERTY_DISJOINT_WITH-default : goal.returns-in-OWL_PROPERTY_DISJOINT_WITH-default
+returns-in-OWL_PROPERTY_DISJOINT_WITH-default c =
+    let p : c.args.t.p.0 ≡ propertyDisjointWith = search rules in
+    kind_some PrpPdw (triple_of c.args.t) p
 
-pub returns-then-t-3 : goal.returns-then-t-3
-unfolding check_of
-returns-then-t-3 c =
-    record {
-      is = simp (ne_eqb _ _ c.if-t.false, ne_eqb _ _ c.if-t-2.false, ne_eqb _ _ c.if-t-3.true);
-      stated = λ f. absurd (f refl);
-    }
+pub returns-in-RDF_TYPE-OWL_IRREFLEXIVE_PROPERTY : goal.returns-in-RDF_TYPE-OWL_IRREFLEXIVE_PROPERTY
+returns-in-RDF_TYPE-OWL_IRREFLEXIVE_PROPERTY c =
+    let p : c.args.t.p.0 ≡ type = search rules in
+    let o : c.args.t.o.0 ≡ IrreflexiveProperty = search rules in
+    kind_some PrpIrp (triple_of c.args.t) (p, o)
 
-pub returns-then-t-4 : goal.returns-then-t-4
-returns-then-t-4 c =
-    record {
-      is = sym (axiom_kind PrpIrp (triple_of c.args.t) (c.if-t-3.false, c.if-t-4.true));
-      stated = λ _. (c.if-t-3.false, c.if-t-4.true);
-    }
+pub returns-in-RDF_TYPE-OWL_ASYMMETRIC_PROPERTY : goal.returns-in-RDF_TYPE-OWL_ASYMMETRIC_PROPERTY
+returns-in-RDF_TYPE-OWL_ASYMMETRIC_PROPERTY c =
+    let p : c.args.t.p.0 ≡ type = search rules in
+    let o : c.args.t.o.0 ≡ AsymmetricProperty = search rules in
+    kind_some PrpAsyp (triple_of c.args.t) (p, o)
 
-pub returns-then-t-5 : goal.returns-then-t-5
-returns-then-t-5 c =
-    record {
-      is = sym (axiom_kind PrpAsyp (triple_of c.args.t) (c.if-t-3.false, c.if-t-5.true));
-      stated = λ _. (c.if-t-3.false, c.if-t-5.true);
-    }
+pub returns-in-RDF_TYPE-OWL_NOTHING : goal.returns-in-RDF_TYPE-OWL_NOTHING
+returns-in-RDF_TYPE-OWL_NOTHING c =
+    let p : c.args.t.p.0 ≡ type = search rules in
+    let o : c.args.t.o.0 ≡ Nothing = search rules in
+    kind_some ClsNothing2 (triple_of c.args.t) (p, o)
 
-pub returns-then-t-6 : goal.returns-then-t-6
-returns-then-t-6 c =
-    record {
-      is = sym (axiom_kind ClsNothing2 (triple_of c.args.t) (c.if-t-3.false, c.if-t-6.true));
-      stated = λ _. (c.if-t-3.false, c.if-t-6.true);
-    }
+pub returns-in_default : goal.returns-in_default
+returns-in_default c =
+    let p : c.args.t.p.0 ≡ type = search rules in
+    let x : c.args.t.o.0 ≡ IrreflexiveProperty → ⊥ = search rules in
+    let y : c.args.t.o.0 ≡ AsymmetricProperty → ⊥ = search rules in
+    let z : c.args.t.o.0 ≡ Nothing → ⊥ = search rules in
+    kind_typed (triple_of c.args.t) p x y z
 
-pub returns : goal.returns
-unfolding check_of
-returns c =
-    record {
-      is = simp (
-        ne_eqb _ _ c.if-t.false,
-        ne_eqb _ _ c.if-t-2.false,
-        eq-eqb _ _ c.if-t-3.false,
-        ne_eqb _ _ c.if-t-4.false,
-        ne_eqb _ _ c.if-t-5.false,
-        ne_eqb _ _ c.if-t-6.false,
-      );
-      stated = λ f. absurd (f refl);
-    }
+pub returns-in_default-2 : goal.returns-in_default-2
+returns-in_default-2 c =
+    let x : c.args.t.p.0 ≡ disjointWith → ⊥ = search rules in
+    let y : c.args.t.p.0 ≡ propertyDisjointWith → ⊥ = search rules in
+    let z : c.args.t.p.0 ≡ type → ⊥ = search rules in
+    kind_other (triple_of c.args.t) x y z

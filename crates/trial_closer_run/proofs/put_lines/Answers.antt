@@ -3,11 +3,11 @@ use Rattle.edge_closer_text.proofs.Printing.{three_short}
 use Rattle.trial_closer_run.proofs.put_lines.Goals as goal
 
 -- a line of three ids has at most three_width bytes
-pub loop-k-preserved : goal.loop-k-preserved
-loop-k-preserved c =
-    let id = c.args.first + c.loop-k.k in
+pub loop-s-preserved : goal.loop-s-preserved
+loop-s-preserved c =
+    let s = c.loop-s.s in
     let small = c.requires.0 in
     let fits = c.ranges.p.fits in
-    let short = three_short id c.args.p (id + 1) (omega arith) (omega arith) (omega arith) in
+    let short = three_short s c.args.p (s + 1) (omega arith) (omega arith) (omega arith) in
     let end = c.put_line-to.ensures.end in
-    (omega arith, omega arith)
+    omega arith

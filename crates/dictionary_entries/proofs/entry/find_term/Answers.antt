@@ -1,16 +1,8 @@
 -- `dictionary_entries::entry::find_term` meets its contract. Assumes nothing.
 use native.Mathlib.Omega.{arith}
-use Rattle.dictionary_layout.specs.Terms.{term}
-use Rattle.dictionary_layout.specs.Layout.{chain, decode}
-use Rattle.dictionary_layout.specs.Values.{contents}
-use Rattle.dictionary_layout.proofs.Walking.{Walked}
 use Rattle.dictionary_entries.proofs.Searching.{head_within, find_start, walked_below, walked_fits, some_term, first_fits}
 use Rattle.dictionary_entries.proofs.Searching.{find_next, find_hit, find_miss}
 use Rattle.dictionary_entries.proofs.entry.find_term.Goals as goal
-
-pub offset_bounds-table-chain : goal.offset_bounds-table-chain
-offset_bounds-table-chain c =
-    omega (arith, c.requires.chained)
 
 pub bounds-table-chain : goal.bounds-table-chain
 bounds-table-chain c =
@@ -20,10 +12,6 @@ pub loop-id-init : goal.loop-id-init
 loop-id-init c =
     find_start c.requires
 
-pub overflow_cast-at : goal.overflow_cast-at
-overflow_cast-at c =
-    omega (arith, walked_below c.requires c.loop-id.invariant)
-
 pub names-requires : goal.names-requires
 names-requires c =
     walked_fits c.requires c.loop-id.invariant
@@ -32,22 +20,6 @@ pub returns-then-names : goal.returns-then-names
 returns-then-names c =
     find_hit c.requires c.loop-id.id (walked_below c.requires c.loop-id.invariant)
     c.names.ensures c.if-names.true
-
-pub overflow_mul-id : goal.overflow_mul-id
-overflow_mul-id c =
-    omega (arith, walked_below c.requires c.loop-id.invariant)
-
-pub overflow_add-id : goal.overflow_add-id
-overflow_add-id c =
-    omega (arith, walked_below c.requires c.loop-id.invariant)
-
-pub overflow_add-id-in-loop-id : goal.overflow_add-id-in-loop-id
-overflow_add-id-in-loop-id c =
-    omega (arith, walked_below c.requires c.loop-id.invariant)
-
-pub offset_bounds-table-at : goal.offset_bounds-table-at
-offset_bounds-table-at c =
-    omega (arith, walked_below c.requires c.loop-id.invariant)
 
 pub bounds-table-at : goal.bounds-table-at
 bounds-table-at c =
@@ -71,6 +43,6 @@ pub returns-then-names-2 : goal.returns-then-names-2
 returns-then-names-2 c =
     find_hit c.requires 0 (some_term c.requires) c.names-2.ensures c.if-names-2.true
 
-pub returns : goal.returns
-returns c =
+pub returns-else-names-2 : goal.returns-else-names-2
+returns-else-names-2 c =
     find_miss c.requires c.loop-id.invariant c.loop-id-test.false c.names-2.ensures c.if-names-2.false

@@ -1,7 +1,6 @@
 -- `dictionary_entries::initial::enter` meets its contract. Assumes nothing.
 use mathlib.Core.Path.{ap}
 use native.Mathlib.Omega.{arith}
-use borrow.Author.Rules.{rules}
 use Rattle.dictionary_layout.specs.declared.values.Digest.{Digest}
 use Rattle.dictionary_entries.proofs.Starting.{next_appendable, next_short, next_done}
 use Rattle.dictionary_entries.proofs.initial.enter.Goals as goal
@@ -13,12 +12,6 @@ digest-chain-requires c =
 pub append-requires : goal.append-requires
 append-requires c =
     next_appendable c.requires (ap (λ (x : Digest). x.chain) c.digest-chain.ensures)
-
-pub shape_of-table : goal.shape_of-table
-shape_of-table c = search rules
-
-pub shape_of-arena : goal.shape_of-arena
-shape_of-arena c = search rules
 
 pub returns : goal.returns
 returns c =

@@ -1,20 +1,7 @@
 -- `dictionary_entries::initial::enter_all` meets its contract. Assumes nothing.
 use mathlib.Core.Path.{◌∙◌}
-use borrow.Author.Rules.{rules}
 use Rattle.dictionary_entries.proofs.Starting.{all_entered}
 use Rattle.dictionary_entries.proofs.initial.enter_all.Goals as goal
-
-pub enter_blank-c-requires : goal.enter_blank-c-requires
-enter_blank-c-requires c = search rules
-
-pub enter_rdf-c-requires : goal.enter_rdf-c-requires
-enter_rdf-c-requires c = search rules
-
-pub enter_rdfs-c-requires : goal.enter_rdfs-c-requires
-enter_rdfs-c-requires c = search rules
-
-pub enter_owl-requires : goal.enter_owl-requires
-enter_owl-requires c = search rules
 
 pub shape_of-table : goal.shape_of-table
 shape_of-table c =

@@ -2,19 +2,12 @@
 use mathlib.Core.Path.{sym, subst}
 use Prim.Native.Nat.{◌+◌}
 use native.Mathlib.Omega.{arith}
-use borrow.Author.Rules.{rules}
 use lib.ListN.{length, replicate, length-append}
 use lib.Seq.{length-take-le}
 use Rattle.dictionary_entries.specs.Starting.{Next}
 use Rattle.dictionary_layout.specs.Values.{contents}
 use Rattle.dictionary_entries.proofs.Starting.{next_short, joined_by}
 use Rattle.dictionary_entries.proofs.initial.enter_named.Goals as goal
-
-pub overflow_add-end : goal.overflow_add-end
-overflow_add-end c = search rules
-
-pub slice_bounds-copy_at-end : goal.slice_bounds-copy_at-end
-slice_bounds-copy_at-end c = search rules
 
 pub copy_at-requires : goal.copy_at-requires
 copy_at-requires c =
@@ -23,9 +16,6 @@ copy_at-requires c =
     let h = next_short c.requires in
     let l = length-append p q in
     omega (arith, h, l)
-
-pub slice_bounds-copy_at-end-2 : goal.slice_bounds-copy_at-end-2
-slice_bounds-copy_at-end-2 c = search rules
 
 pub copy_at-requires-2 : goal.copy_at-requires-2
 copy_at-requires-2 c =
@@ -62,12 +52,3 @@ enter-requires c =
     (sym
     (joined_by (replicate 64 0) p q (omega (arith, h, l)) c.copy_at.ensures c.copy_at-2.ensures))
     c.requires
-
-pub shape_of-table : goal.shape_of-table
-shape_of-table c = search rules
-
-pub shape_of-arena : goal.shape_of-arena
-shape_of-arena c = search rules
-
-pub returns : goal.returns
-returns c = search rules

@@ -10,8 +10,7 @@ use Rattle.dictionary_layout.specs.Values.{contents}
 use Rattle.ntriples.specs.Grammar.{Line, line}
 use Rattle.ntriples.specs.Reading.{Outcome, line_limit}
 use Rattle.driver_read.specs.Lines.{said_comes, line_comes, ComesTo}
-use Rattle.driver_read.proofs.Outcomes.{answered, refuses, passes, line_long, line_said, said_nothing, said_bad, said_triple}
-use Rattle.driver_read.proofs.Outcomes.{said_ordered}
+use Rattle.driver_read.proofs.Outcomes.{answered, refuses, passes, line_long, line_said}
 use Rattle.driver_read.proofs.lines.read_line.Goals as goal
 
 -- a line that is not too long comes to what it says
@@ -26,26 +25,23 @@ returns-then-bytes-gt-LINE_LIMIT c =
     (lt→ltb line_limit (length l) c.if-bytes-gt-LINE_LIMIT.true) in
     answered c.read_next.ensures (refuses 14 c.requires.0 (omega arith) long)
 
-pub read_triple-requires : goal.read_triple-requires
-read_triple-requires c =
-    (c.requires.0, said_ordered c.line-said.ensures c.in-Triple.is)
-
-pub returns-in-Nothing : goal.returns-in-Nothing
-returns-in-Nothing c =
-    answered c.read_next-in-Nothing.ensures (passes c.requires.0
+pub returns-in-Some-Nothing : goal.returns-in-Some-Nothing
+returns-in-Some-Nothing c =
+    let said = rw c.in-Some-Nothing.field-0-is at c.in-Some-Nothing.ensures in
+    answered c.read_next-in-Some-Nothing.ensures (passes c.requires.0
     (comes (contents c.args.table.now c.args.arena.now c.args.next.counters) c.args.load.now c.args.next.count
-    c.args.bytes.now c.if-bytes-gt-LINE_LIMIT.false (said_nothing c.line-said.ensures c.in-Nothing.is)))
+    c.args.bytes.now c.if-bytes-gt-LINE_LIMIT.false said.said_is))
 
-pub returns-in-Triple : goal.returns-in-Triple
-returns-in-Triple c =
-    let e = comes (contents c.args.table.now c.args.arena.now c.args.next.counters) c.args.load.now c.args.next.count
-    c.args.bytes.now c.if-bytes-gt-LINE_LIMIT.false (said_triple c.line-said.ensures c.in-Triple.is) in
-    subst (λ (o : Outcome). ComesTo o (contents c.args.table.now c.args.arena.now c.args.next.counters) c.read_triple.new.table
-    c.read_triple.new.arena c.read_triple.new.hash
-    c.read_triple.new.load c.read_triple.result) (sym e) c.read_triple.ensures
+pub returns-in-Some-Triple : goal.returns-in-Some-Triple
+returns-in-Some-Triple c =
+    let d = contents c.args.table.now c.args.arena.now c.args.next.counters in
+    let said = rw c.in-Some-Triple.field-0-is at c.in-Some-Triple.ensures in
+    let e = comes d c.args.load.now c.args.next.count c.args.bytes.now c.if-bytes-gt-LINE_LIMIT.false said.said_is in
+    subst (λ (o : Outcome). ComesTo o d c.read_triple.new.table c.read_triple.new.arena c.read_triple.new.hash c.read_triple.new.load
+    c.read_triple.result) (sym e) c.read_triple.ensures
 
-pub returns-in-Bad : goal.returns-in-Bad
-returns-in-Bad c =
-    answered c.read_next-in-Bad.ensures (refuses 13 c.requires.0 (omega arith)
+pub returns-in-None : goal.returns-in-None
+returns-in-None c =
+    answered c.read_next-in-None.ensures (refuses 13 c.requires.0 (omega arith)
     (comes (contents c.args.table.now c.args.arena.now c.args.next.counters) c.args.load.now c.args.next.count
-    c.args.bytes.now c.if-bytes-gt-LINE_LIMIT.false (said_bad c.line-said.ensures c.in-Bad.is)))
+    c.args.bytes.now c.if-bytes-gt-LINE_LIMIT.false c.in-None.ensures.said_is))

@@ -34,30 +34,6 @@ read_line-next-requires c =
       },
     )
 
-pub shape_of-table-then-next-ne0 : goal.shape_of-table-then-next-ne0
-shape_of-table-then-next-ne0 c =
-    c.read_line-next.auto.table ∙ c.loop-at.invariant.reading.kept.table
-
-pub shape_of-arena-then-next-ne0 : goal.shape_of-arena-then-next-ne0
-shape_of-arena-then-next-ne0 c =
-    c.read_line-next.auto.arena ∙ c.loop-at.invariant.reading.kept.arena
-
-pub shape_of-hash-then-next-ne0 : goal.shape_of-hash-then-next-ne0
-shape_of-hash-then-next-ne0 c =
-    c.read_line-next.auto.hash ∙ c.loop-at.invariant.hash_long
-
-pub shape_of-load-then-next-ne0 : goal.shape_of-load-then-next-ne0
-shape_of-load-then-next-ne0 c =
-    c.read_line-next.auto.load ∙ c.loop-at.invariant.load_long
-
-pub shape_of-chars-then-next-ne0 : goal.shape_of-chars-then-next-ne0
-shape_of-chars-then-next-ne0 c =
-    c.read_line-next.auto.chars ∙ c.loop-at.invariant.chars_long
-
-pub shape_of-out-then-next-ne0 : goal.shape_of-out-then-next-ne0
-shape_of-out-then-next-ne0 c =
-    c.read_line-next.auto.out ∙ c.loop-at.invariant.out_long
-
 pub returns-then-next-ne0 : goal.returns-then-next-ne0
 returns-then-next-ne0 c =
     reading_refused (let l = c.loop-at in
@@ -85,30 +61,6 @@ loop-at-preserved c =
       chars_long = c.read_line-next.auto.chars ∙ g.chars_long;
       out_long = c.read_line-next.auto.out ∙ g.out_long;
     }
-
-pub shape_of-table : goal.shape_of-table
-shape_of-table c =
-    c.loop-at.invariant.reading.kept.table
-
-pub shape_of-arena : goal.shape_of-arena
-shape_of-arena c =
-    c.loop-at.invariant.reading.kept.arena
-
-pub shape_of-hash : goal.shape_of-hash
-shape_of-hash c =
-    c.loop-at.invariant.hash_long
-
-pub shape_of-load : goal.shape_of-load
-shape_of-load c =
-    c.loop-at.invariant.load_long
-
-pub shape_of-chars : goal.shape_of-chars
-shape_of-chars c =
-    c.loop-at.invariant.chars_long
-
-pub shape_of-out : goal.shape_of-out
-shape_of-out c =
-    c.loop-at.invariant.out_long
 
 pub returns : goal.returns
 returns c =

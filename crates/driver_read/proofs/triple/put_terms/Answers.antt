@@ -1,12 +1,11 @@
 -- `triple::put_terms` meets its contract. Assumes nothing.
-use mathlib.Core.Path.{◌≡◌, refl, sym, ◌∙◌}
+use Rattle.common.proofs.Refusals.{numbered}
+use mathlib.Core.Path.{◌≡◌, refl, ◌∙◌}
 use mathlib.Core.Logic.{◌≢◌}
 use mathlib.Core.List.{List, [], ◌∷◌}
 use mathlib.Core.Option.{some}
 use Prim.Native.Nat.{ℕ}
-use native.Mathlib.Omega.{arith}
 use lib.ListN.{length}
-use lib.Seq.{length-take-le}
 use Rattle.dictionary_layout.specs.Layout.{Dict, decode}
 use Rattle.dictionary_layout.specs.Terms.{Term}
 use Rattle.dictionary_layout.specs.Dictionary.{AllPut, full, all_put, put_all, place_of}
@@ -14,9 +13,9 @@ use Rattle.dictionary_layout.specs.Calls.{put_result, put_gives}
 use Rattle.dictionary_puts.specs.Indexed.{Indexed}
 use Rattle.ntriples.specs.Grammar.{Terms}
 use Rattle.ntriples.specs.Reading.{in_order}
-use Rattle.driver_read.specs.Lines.{terms_at, Kept}
-use Rattle.driver_read.proofs.Putting.{kept_on, put_kept, put_none, put_next, put_id, put_others}
-use Rattle.driver_read.proofs.Putting.{answered_as, not_put, are_put, put_end}
+use Rattle.ntriples_lines.specs.Promises.{terms_at}
+use Rattle.driver_read.specs.Lines.{Kept}
+use Rattle.driver_read.proofs.Putting.{kept_on, put_kept, put_none, put_next, put_id, put_others, no_room_left, are_put, put_end}
 use Rattle.driver_read.proofs.triple.put_terms.Goals as goal
 
 -- what puts of terms in a dictionary come to
@@ -66,106 +65,42 @@ module _ {d₀ d₁ : Dict} {h₀ h₁ : List ℕ} (x₀ : Indexed d₀ h₀) (x
       o_named : n₃ ≡ 0 → place_of t.o (decode d₃) ≡ some i₃
       o_named n = put_id x₂ x₃ t.o q₃ n
 
-pub slice_bounds-put_indexed-end : goal.slice_bounds-put_indexed-end
-slice_bounds-put_indexed-end c =
-    let o = c.requires.1 in
-    sym (length-take-le c.args.t.se c.args.out.now (omega (arith, o.s_p, o.p_o, o.within)))
+pub returns-in_default : goal.returns-in_default
+returns-in_default c =
+    let t = terms_at c.args.t c.args.out.now in
+    let s = c.in_default.ensures in
+    no_room_left c.no_room.ensures s.indexed (kept₁ c.requires.0 s.indexed t s.arena_after)
+    (none₁ c.requires.0 s.indexed t s.arena_after (numbered c.in_default.field-0))
 
-pub returns-then-s-ne0 : goal.returns-then-s-ne0
-returns-then-s-ne0 c =
-    answered_as c.no_room.ensures
-    (not_put c.put_indexed-s.ensures.indexed
-    (kept₁ c.requires.0 c.put_indexed-s.ensures.indexed (terms_at c.args.t c.args.out.now) c.put_indexed-s.ensures.arena_after) refl
-    (none₁ c.requires.0 c.put_indexed-s.ensures.indexed (terms_at c.args.t c.args.out.now) c.put_indexed-s.ensures.arena_after
-    c.if-s-ne0.true))
+pub returns-in_default-put_indexed : goal.returns-in_default-put_indexed
+returns-in_default-put_indexed c =
+    let t = terms_at c.args.t c.args.out.now in
+    let s = c.in-Ok.ensures in
+    let p = c.in_default-put_indexed.ensures in
+    no_room_left c.no_room-in_default-put_indexed.ensures p.indexed
+    (kept₂ c.requires.0 s.indexed t s.arena_after refl p.indexed p.arena_after)
+    (none₂ c.requires.0 s.indexed t s.arena_after refl p.indexed p.arena_after (numbered c.in_default-put_indexed.field-0))
 
-pub shape_of-table-then-p-ne0 : goal.shape_of-table-then-p-ne0
-shape_of-table-then-p-ne0 c =
-    c.put_indexed-p.auto.table ∙ c.put_indexed-s.auto.table
-
-pub shape_of-arena-then-p-ne0 : goal.shape_of-arena-then-p-ne0
-shape_of-arena-then-p-ne0 c =
-    c.put_indexed-p.auto.arena ∙ c.put_indexed-s.auto.arena
-
-pub shape_of-hash-then-p-ne0 : goal.shape_of-hash-then-p-ne0
-shape_of-hash-then-p-ne0 c =
-    c.put_indexed-p.auto.hash ∙ c.put_indexed-s.auto.hash
-
-pub returns-then-p-ne0 : goal.returns-then-p-ne0
-returns-then-p-ne0 c =
-    answered_as c.no_room-then-p-ne0.ensures
-    (not_put c.put_indexed-p.ensures.indexed
-    (kept₂ c.requires.0 c.put_indexed-s.ensures.indexed (terms_at c.args.t c.args.out.now) c.put_indexed-s.ensures.arena_after
-    c.if-s-ne0.false c.put_indexed-p.ensures.indexed c.put_indexed-p.ensures.arena_after) refl
-    (none₂ c.requires.0 c.put_indexed-s.ensures.indexed (terms_at c.args.t c.args.out.now) c.put_indexed-s.ensures.arena_after
-    c.if-s-ne0.false c.put_indexed-p.ensures.indexed c.put_indexed-p.ensures.arena_after c.if-p-ne0.true))
-
-pub slice_bounds-put_indexed-count-2 : goal.slice_bounds-put_indexed-count-2
-slice_bounds-put_indexed-count-2 c =
-    let o = c.requires.1 in
-    omega (arith, o.p_o)
-
-pub slice_bounds-put_indexed-start-2 : goal.slice_bounds-put_indexed-start-2
-slice_bounds-put_indexed-start-2 c =
-    let o = c.requires.1 in
-    omega (arith, o.p_o, o.within)
-
-pub slice_bounds-put_indexed-end-3 : goal.slice_bounds-put_indexed-end-3
-slice_bounds-put_indexed-end-3 c =
-    let o = c.requires.1 in
-    omega (arith, o.p_o, o.within)
-
-pub shape_of-table-then-o-ne0 : goal.shape_of-table-then-o-ne0
-shape_of-table-then-o-ne0 c =
-    c.put_indexed-o.auto.table ∙ (c.put_indexed-p.auto.table ∙ c.put_indexed-s.auto.table)
-
-pub shape_of-arena-then-o-ne0 : goal.shape_of-arena-then-o-ne0
-shape_of-arena-then-o-ne0 c =
-    c.put_indexed-o.auto.arena ∙ (c.put_indexed-p.auto.arena ∙ c.put_indexed-s.auto.arena)
-
-pub shape_of-hash-then-o-ne0 : goal.shape_of-hash-then-o-ne0
-shape_of-hash-then-o-ne0 c =
-    c.put_indexed-o.auto.hash ∙ (c.put_indexed-p.auto.hash ∙ c.put_indexed-s.auto.hash)
-
-pub returns-then-o-ne0 : goal.returns-then-o-ne0
-returns-then-o-ne0 c =
-    answered_as c.no_room-then-o-ne0.ensures
-    (not_put c.put_indexed-o.ensures.indexed
-    (kept₃ c.requires.0 c.put_indexed-s.ensures.indexed (terms_at c.args.t c.args.out.now) c.put_indexed-s.ensures.arena_after
-    c.if-s-ne0.false c.put_indexed-p.ensures.indexed c.put_indexed-p.ensures.arena_after
-    c.if-p-ne0.false c.put_indexed-o.ensures.indexed c.put_indexed-o.ensures.arena_after) refl
-    (none₃ c.requires.0 c.put_indexed-s.ensures.indexed (terms_at c.args.t c.args.out.now) c.put_indexed-s.ensures.arena_after
-    c.if-s-ne0.false c.put_indexed-p.ensures.indexed c.put_indexed-p.ensures.arena_after
-    c.if-p-ne0.false c.put_indexed-o.ensures.indexed c.put_indexed-o.ensures.arena_after c.if-o-ne0.true))
-
-pub shape_of-table : goal.shape_of-table
-shape_of-table c =
-    c.put_indexed-o.auto.table ∙ (c.put_indexed-p.auto.table ∙ c.put_indexed-s.auto.table)
-
-pub shape_of-arena : goal.shape_of-arena
-shape_of-arena c =
-    c.put_indexed-o.auto.arena ∙ (c.put_indexed-p.auto.arena ∙ c.put_indexed-s.auto.arena)
-
-pub shape_of-hash : goal.shape_of-hash
-shape_of-hash c =
-    c.put_indexed-o.auto.hash ∙ (c.put_indexed-p.auto.hash ∙ c.put_indexed-s.auto.hash)
+pub returns-in_default-put_indexed-2 : goal.returns-in_default-put_indexed-2
+returns-in_default-put_indexed-2 c =
+    let t = terms_at c.args.t c.args.out.now in
+    let s = c.in-Ok.ensures in
+    let p = c.in-Ok-put_indexed.ensures in
+    let o = c.in_default-put_indexed-2.ensures in
+    no_room_left c.no_room-in_default-put_indexed-2.ensures o.indexed
+    (kept₃ c.requires.0 s.indexed t s.arena_after refl p.indexed p.arena_after refl o.indexed o.arena_after)
+    (none₃ c.requires.0 s.indexed t s.arena_after refl p.indexed p.arena_after refl o.indexed o.arena_after
+    (numbered c.in_default-put_indexed-2.field-0))
 
 pub returns : goal.returns
 returns c =
-    answered_as c.line_ids.ensures
-    (are_put c.put_indexed-o.ensures.indexed
-    (kept₃ c.requires.0 c.put_indexed-s.ensures.indexed (terms_at c.args.t c.args.out.now) c.put_indexed-s.ensures.arena_after
-    c.if-s-ne0.false c.put_indexed-p.ensures.indexed c.put_indexed-p.ensures.arena_after
-    c.if-p-ne0.false c.put_indexed-o.ensures.indexed c.put_indexed-o.ensures.arena_after) refl
-    (next₃ c.requires.0 c.put_indexed-s.ensures.indexed (terms_at c.args.t c.args.out.now) c.put_indexed-s.ensures.arena_after
-    c.if-s-ne0.false c.put_indexed-p.ensures.indexed c.put_indexed-p.ensures.arena_after
-    c.if-p-ne0.false c.put_indexed-o.ensures.indexed c.put_indexed-o.ensures.arena_after c.if-o-ne0.false)
-    (s_named c.requires.0 c.put_indexed-s.ensures.indexed (terms_at c.args.t c.args.out.now) c.put_indexed-s.ensures.arena_after
-    c.if-s-ne0.false c.put_indexed-p.ensures.indexed c.put_indexed-p.ensures.arena_after
-    c.if-p-ne0.false c.put_indexed-o.ensures.indexed c.put_indexed-o.ensures.arena_after)
-    (p_named c.requires.0 c.put_indexed-s.ensures.indexed (terms_at c.args.t c.args.out.now) c.put_indexed-s.ensures.arena_after
-    c.if-s-ne0.false c.put_indexed-p.ensures.indexed c.put_indexed-p.ensures.arena_after
-    c.if-p-ne0.false c.put_indexed-o.ensures.indexed c.put_indexed-o.ensures.arena_after)
-    (o_named c.requires.0 c.put_indexed-s.ensures.indexed (terms_at c.args.t c.args.out.now) c.put_indexed-s.ensures.arena_after
-    c.if-s-ne0.false c.put_indexed-p.ensures.indexed c.put_indexed-p.ensures.arena_after
-    c.if-p-ne0.false c.put_indexed-o.ensures.indexed c.put_indexed-o.ensures.arena_after c.if-o-ne0.false))
+    let x = c.requires.0 in
+    let t = terms_at c.args.t c.args.out.now in
+    let s = c.in-Ok.ensures in
+    let p = c.in-Ok-put_indexed.ensures in
+    let o = c.in-Ok-put_indexed-2.ensures in
+    are_put o.indexed (kept₃ x s.indexed t s.arena_after refl p.indexed p.arena_after refl o.indexed o.arena_after) refl
+    (next₃ x s.indexed t s.arena_after refl p.indexed p.arena_after refl o.indexed o.arena_after refl)
+    (s_named x s.indexed t s.arena_after refl p.indexed p.arena_after refl o.indexed o.arena_after)
+    (p_named x s.indexed t s.arena_after refl p.indexed p.arena_after refl o.indexed o.arena_after)
+    (o_named x s.indexed t s.arena_after refl p.indexed p.arena_after refl o.indexed o.arena_after refl)

@@ -1,52 +1,24 @@
 -- `driver_write::terms::term_length` meets its contract. Assumes nothing.
 use native.Mathlib.Omega.{arith}
-use borrow.Author.Rules.{rules}
 use Rattle.dictionary_layout.specs.Values.{contents}
 use Rattle.dictionary_entries.proofs.Reading.{entry_fits}
 use Rattle.driver_write.proofs.Entries.{entry_measurable, entry_length}
 use Rattle.driver_write.proofs.terms.term_length.Goals as goal
-
-pub overflow_mul-at : goal.overflow_mul-at
-overflow_mul-at c = search rules
-
-pub overflow_add-at : goal.overflow_add-at
-overflow_add-at c = search rules
-
-pub offset_bounds-table-at : goal.offset_bounds-table-at
-offset_bounds-table-at c = search rules
 
 pub bounds-table-at : goal.bounds-table-at
 bounds-table-at c =
     let d = contents c.args.table.now c.args.arena.now c.args.counters in
     omega (arith, (entry_fits d c.requires.0 c.args.id c.requires.1).entry)
 
-pub overflow_add-end : goal.overflow_add-end
-overflow_add-end c = search rules
-
-pub offset_bounds-table-at-2 : goal.offset_bounds-table-at-2
-offset_bounds-table-at-2 c = search rules
-
 pub bounds-table-at-2 : goal.bounds-table-at-2
 bounds-table-at-2 c =
     let d = contents c.args.table.now c.args.arena.now c.args.counters in
     omega (arith, (entry_fits d c.requires.0 c.args.id c.requires.1).entry)
 
-pub overflow_add-at-2 : goal.overflow_add-at-2
-overflow_add-at-2 c = search rules
-
-pub offset_bounds-table-at-3 : goal.offset_bounds-table-at-3
-offset_bounds-table-at-3 c = search rules
-
 pub bounds-table-at-3 : goal.bounds-table-at-3
 bounds-table-at-3 c =
     let d = contents c.args.table.now c.args.arena.now c.args.counters in
     omega (arith, (entry_fits d c.requires.0 c.args.id c.requires.1).entry)
-
-pub slice_bounds-text_length-count : goal.slice_bounds-text_length-count
-slice_bounds-text_length-count c = search rules
-
-pub slice_bounds-text_length-start : goal.slice_bounds-text_length-start
-slice_bounds-text_length-start c = search rules
 
 pub slice_bounds-text_length-end : goal.slice_bounds-text_length-end
 slice_bounds-text_length-end c =
@@ -57,9 +29,6 @@ pub text_length-requires : goal.text_length-requires
 text_length-requires c =
     let d = contents c.args.table.now c.args.arena.now c.args.counters in
     entry_measurable d c.requires.0 c.args.id c.requires.1 c.requires.2
-
-pub shape_of-chars : goal.shape_of-chars
-shape_of-chars c = search rules
 
 pub returns : goal.returns
 returns c =

@@ -1,6 +1,3 @@
-use mathlib.Core.Path.{◌≡◌}
-use Prim.Native.Nat.{◌-◌, ◌≤◌}
-use lib.ListN.{length}
 use Rattle.common.proofs.Filling.{Filled}
 use Rattle.dictionary_layout.specs.Layout.{decode}
 use Rattle.dictionary_layout.specs.Dictionary.{term_of}
@@ -9,9 +6,4 @@ use Rattle.ntriples_text.specs.Promises.{text_length}
 use Rattle.driver_write.proofs.terms.term_lengths.Given as goal
 
 abbrev pub invariant-loop-i : goal.invariant-loop-i
-invariant-loop-i l =
-    (l.i ≤ l.n) × Filled (λ k. text_length (term_of (decode (contents l.table l.arena l.counters)) k)) l.initial.lengths l.lengths l.i
-    × (length l.chars ≡ length l.initial.chars)
-
-abbrev pub decreases-loop-i : goal.decreases-loop-i
-decreases-loop-i l = l.n - l.i
+invariant-loop-i l = Filled (λ k. text_length (term_of (decode (contents l.table l.arena l.counters)) k)) l.initial.lengths l.lengths l.i

@@ -2,9 +2,6 @@
 use Rattle.edge_c.proofs.Forwarding.{table_enough, prefix, prefix_forwarded}
 use Rattle.edge_c.proofs.dictionary.lookup_in.Goals as goal
 
-pub how_many-n-requires : goal.how_many-n-requires
-how_many-n-requires c = tt
-
 pub slice_bounds-lookup_on-end : goal.slice_bounds-lookup_on-end
 slice_bounds-lookup_on-end c =
     let enough = table_enough c.args.numbers.now c.requires in
@@ -19,9 +16,6 @@ pub lookup_on-requires : goal.lookup_on-requires
 lookup_on-requires c =
     let enough = table_enough c.args.numbers.now c.requires in
     prefix_forwarded enough c.args.table.now c.how_many-n.ensures
-
-pub shape_of-numbers : goal.shape_of-numbers
-shape_of-numbers c = c.numbers-1.given.1
 
 pub returns : goal.returns
 returns c = c.lookup_on.ensures

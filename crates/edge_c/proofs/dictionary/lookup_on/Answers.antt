@@ -1,35 +1,20 @@
 -- `edge_c::dictionary::lookup_on` meets its contract. Assumes nothing.
 use mathlib.Core.Path.{sym, ◌∙◌}
-use Rattle.dictionary_layout.specs.Layout.{Dict}
 use Rattle.dictionary_layout.specs.Dictionary.{valid}
 use Rattle.dictionary_layout.specs.Values.{contents}
 use Rattle.dictionary_layout.proofs.Choice.{true→T, false→not_T}
-use Rattle.edge_c.proofs.Forwarding.{ReadTable, read_as}
+use Rattle.edge_c.proofs.Forwarding.{read_as}
 use Rattle.edge_c.proofs.Places.{place_broken, place_alike}
 use Rattle.edge_c.proofs.dictionary.lookup_on.Goals as goal
-
-pub read_numbers-requires : goal.read_numbers-requires
-read_numbers-requires c = tt
-
-pub is_valid-requires : goal.is_valid-requires
-is_valid-requires c = tt
 
 pub place_of-requires : goal.place_of-requires
 place_of-requires c =
     true→T (valid (contents c.read_numbers.new.numbers c.args.arena.now c.args.counters)) (sym c.if-is_valid.true ∙ c.is_valid.ensures)
 
-pub shape_of-numbers-then-is_valid : goal.shape_of-numbers-then-is_valid
-shape_of-numbers-then-is_valid c =
-    c.read_numbers.auto.numbers
-
 pub returns-then-is_valid : goal.returns-then-is_valid
 returns-then-is_valid c =
     place_alike (contents c.args.table.now c.args.arena.now c.args.counters)
     (let p = c.read_numbers in read_as c.requires p.auto.numbers p.ensures) c.args.id c.place_of.ensures
-
-pub shape_of-numbers : goal.shape_of-numbers
-shape_of-numbers c =
-    c.read_numbers.auto.numbers
 
 pub returns : goal.returns
 returns c =

@@ -3,7 +3,6 @@ use native.Mathlib.Omega.{arith}
 use Rattle.dictionary_layout.specs.Values.{contents}
 use Rattle.dictionary_entries.proofs.Reading.{entry_fits}
 use Rattle.edge_c.proofs.Places.{place_12, place_known}
-use borrow.Author.Rules.{rules}
 use Rattle.edge_c.proofs.dictionary.place_of.Goals as goal
 
 pub returns-then-counters-id : goal.returns-then-counters-id
@@ -11,36 +10,15 @@ returns-then-counters-id c =
     let d = contents c.args.numbers.now c.args.arena.now c.args.counters in
     place_12 d c.requires c.args.id c.if-counters-id.true
 
-pub overflow_mul-at : goal.overflow_mul-at
-overflow_mul-at c = search rules
-
-pub overflow_add-at : goal.overflow_add-at
-overflow_add-at c = search rules
-
-pub overflow_add-result : goal.overflow_add-result
-overflow_add-result c = search rules
-
-pub offset_bounds-numbers-at : goal.offset_bounds-numbers-at
-offset_bounds-numbers-at c = search rules
-
 pub bounds-numbers-at : goal.bounds-numbers-at
 bounds-numbers-at c =
     let d = contents c.args.numbers.now c.args.arena.now c.args.counters in
     omega (arith, (entry_fits d c.requires c.args.id c.if-counters-id.false).entry)
 
-pub offset_bounds-numbers-at-2 : goal.offset_bounds-numbers-at-2
-offset_bounds-numbers-at-2 c = search rules
-
 pub bounds-numbers-at-2 : goal.bounds-numbers-at-2
 bounds-numbers-at-2 c =
     let d = contents c.args.numbers.now c.args.arena.now c.args.counters in
     omega (arith, (entry_fits d c.requires c.args.id c.if-counters-id.false).entry)
-
-pub overflow_add-result-2 : goal.overflow_add-result-2
-overflow_add-result-2 c = search rules
-
-pub offset_bounds-numbers-at-3 : goal.offset_bounds-numbers-at-3
-offset_bounds-numbers-at-3 c = search rules
 
 pub bounds-numbers-at-3 : goal.bounds-numbers-at-3
 bounds-numbers-at-3 c =

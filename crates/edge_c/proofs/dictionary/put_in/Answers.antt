@@ -2,9 +2,6 @@
 use Rattle.edge_c.proofs.Forwarding.{table_enough, prefix, prefix_forwarded}
 use Rattle.edge_c.proofs.dictionary.put_in.Goals as goal
 
-pub how_many-n-requires : goal.how_many-n-requires
-how_many-n-requires c = tt
-
 pub slice_bounds-put_on-end : goal.slice_bounds-put_on-end
 slice_bounds-put_on-end c =
     let enough = table_enough c.args.numbers.now c.requires in
@@ -19,18 +16,6 @@ pub put_on-requires : goal.put_on-requires
 put_on-requires c =
     let enough = table_enough c.args.numbers.now c.requires in
     prefix_forwarded enough c.args.table.now c.how_many-n.ensures
-
-pub shape_of-numbers : goal.shape_of-numbers
-shape_of-numbers c =
-    c.numbers-1.given.1
-
-pub shape_of-table : goal.shape_of-table
-shape_of-table c =
-    c.put_on.auto.table
-
-pub shape_of-arena : goal.shape_of-arena
-shape_of-arena c =
-    c.put_on.auto.arena
 
 pub returns : goal.returns
 returns c =

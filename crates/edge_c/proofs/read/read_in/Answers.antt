@@ -1,17 +1,11 @@
 -- `edge_c::read::read_in` meets its contract. Assumes nothing.
 use Prim.Native.Nat.{◌/◌}
 use lib.ListN.{length}
-use Rattle.edge_c.proofs.Forwarding.{table_enough, full_enough, few_full, Prefix, prefix, both_forwarded}
+use Rattle.edge_c.proofs.Forwarding.{table_enough, full_enough, few_full, prefix, both_forwarded}
 use Rattle.edge_c.proofs.read.read_in.Goals as goal
-
-pub how_many-k1-requires : goal.how_many-k1-requires
-how_many-k1-requires c = tt
 
 pub overflow_add-load : goal.overflow_add-load
 overflow_add-load c = few_full (length c.args.load.now / 4)
-
-pub how_many-k2-requires : goal.how_many-k2-requires
-how_many-k2-requires c = tt
 
 pub slice_bounds-read_on-end : goal.slice_bounds-read_on-end
 slice_bounds-read_on-end c = (let enough = table_enough c.args.t.now c.requires.table_room in
@@ -33,23 +27,6 @@ pub read_on-requires : goal.read_on-requires
 read_on-requires c =
     let args = c.args in
     both_forwarded c.requires args.table.now args.load.now c.how_many-k1.ensures c.how_many-k2.ensures
-
-pub shape_of-t : goal.shape_of-t
-shape_of-t c =
-    c.t-1.given.1
-
-pub shape_of-l : goal.shape_of-l
-shape_of-l c =
-    c.l-1.given.1
-
-pub shape_of-table : goal.shape_of-table
-shape_of-table c = c.read_on.auto.table
-
-pub shape_of-arena : goal.shape_of-arena
-shape_of-arena c = c.read_on.auto.arena
-
-pub shape_of-load : goal.shape_of-load
-shape_of-load c = c.read_on.auto.load
 
 pub returns : goal.returns
 returns c = c.read_on.ensures

@@ -1,21 +1,11 @@
 -- `edge_c::read::write_front` meets its contract. Assumes nothing.
-use mathlib.Core.Path.{◌≡◌, sym}
+use mathlib.Core.Path.{sym}
 use Prim.Native.Nat.{◌*◌}
 use native.Mathlib.Omega.{arith}
-use lib.ListN.{length, take}
+use lib.ListN.{length}
 use lib.Seq.{length-take-le}
-use borrow.Author.Rules.{rules}
 use Rattle.edge_c.proofs.Files.{front_zeros}
 use Rattle.edge_c.proofs.read.write_front.Goals as goal
-
-pub clear_bytes-requires : goal.clear_bytes-requires
-clear_bytes-requires c = search rules
-
-pub overflow_mul-n : goal.overflow_mul-n
-overflow_mul-n c = search rules
-
-pub slice_bounds-write_numbers-end : goal.slice_bounds-write_numbers-end
-slice_bounds-write_numbers-end c = search rules
 
 pub slice_bounds-write_numbers-end-2 : goal.slice_bounds-write_numbers-end-2
 slice_bounds-write_numbers-end-2 c = sym (let n = 4 * length c.args.numbers.now in
@@ -26,9 +16,6 @@ pub write_numbers-requires : goal.write_numbers-requires
 write_numbers-requires c = (let n = 4 * length c.args.numbers.now in
     let cleared = c.clear_bytes in
     length-take-le n cleared.new.a (omega (arith, cleared.auto.a, c.requires)))
-
-pub shape_of-bytes : goal.shape_of-bytes
-shape_of-bytes c = search rules
 
 pub returns : goal.returns
 returns c =

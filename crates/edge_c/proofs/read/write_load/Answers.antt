@@ -1,5 +1,4 @@
 -- `edge_c::read::write_load` meets its contract. Assumes nothing.
-use borrow.Author.Rules.{rules}
 use Rattle.edge_c.proofs.Files.{loads_1, loads_2, load_kept, load_changed, front_kept, front_written}
 use Rattle.edge_c.proofs.read.write_load.Goals as goal
 
@@ -16,9 +15,6 @@ returns-then-answer-eq2 c =
 pub write_front-requires : goal.write_front-requires
 write_front-requires c =
     c.requires (load_changed c.args.answer c.if-answer-eq1.false c.if-answer-eq2.false)
-
-pub shape_of-load : goal.shape_of-load
-shape_of-load c = search rules
 
 pub returns : goal.returns
 returns c =

@@ -2,27 +2,12 @@
 use Prim.Native.Nat.{◌/◌}
 use lib.ListN.{length}
 use Rattle.driver_refusals.specs.Lent.{lent}
-use Rattle.edge_c.proofs.Forwarding.{table_enough, load_enough, store_enough, findings_enough, work_enough, few_more, Prefix}
-use Rattle.edge_c.proofs.Forwarding.{prefix, all_forwarded}
+use Rattle.edge_c.proofs.Forwarding.{table_enough, load_enough, store_enough, findings_enough, work_enough, few_more, prefix}
+use Rattle.edge_c.proofs.Forwarding.{all_forwarded}
 use Rattle.edge_c.proofs.turns.turn_in.Goals as goal
-
-pub how_many-k1-requires : goal.how_many-k1-requires
-how_many-k1-requires c = tt
 
 pub overflow_add-load : goal.overflow_add-load
 overflow_add-load c = few_more (length c.args.load.now / 4)
-
-pub how_many-k2-requires : goal.how_many-k2-requires
-how_many-k2-requires c = tt
-
-pub how_many-k3-requires : goal.how_many-k3-requires
-how_many-k3-requires c = tt
-
-pub how_many-k4-requires : goal.how_many-k4-requires
-how_many-k4-requires c = tt
-
-pub how_many-k5-requires : goal.how_many-k5-requires
-how_many-k5-requires c = tt
 
 pub slice_bounds-turn_on-end : goal.slice_bounds-turn_on-end
 slice_bounds-turn_on-end c = (let enough = table_enough c.args.t.now c.requires.table_room in
@@ -76,40 +61,6 @@ turn_on-requires c =
     (lent args.load.now args.store.now args.findings.now args.work.now)
     c.how_many-k1.ensures c.how_many-k2.ensures c.how_many-k3.ensures
     c.how_many-k4.ensures c.how_many-k5.ensures
-
-pub shape_of-t : goal.shape_of-t
-shape_of-t c =
-    c.t-1.given.1
-
-pub shape_of-l : goal.shape_of-l
-shape_of-l c =
-    c.l-1.given.1
-
-pub shape_of-s : goal.shape_of-s
-shape_of-s c =
-    c.s-1.given.1
-
-pub shape_of-f : goal.shape_of-f
-shape_of-f c =
-    c.f-1.given.1
-
-pub shape_of-w : goal.shape_of-w
-shape_of-w c = c.w-1.given.1
-
-pub shape_of-table : goal.shape_of-table
-shape_of-table c = c.turn_on.auto.table
-
-pub shape_of-arena : goal.shape_of-arena
-shape_of-arena c = c.turn_on.auto.arena
-
-pub shape_of-store : goal.shape_of-store
-shape_of-store c = c.turn_on.auto.store
-
-pub shape_of-findings : goal.shape_of-findings
-shape_of-findings c = c.turn_on.auto.findings
-
-pub shape_of-work : goal.shape_of-work
-shape_of-work c = c.turn_on.auto.work
 
 pub returns : goal.returns
 returns c = c.turn_on.ensures

@@ -1,22 +1,15 @@
 -- `edge_c::write::read_rows` meets its contract. Assumes nothing.
-use mathlib.Core.Path.{◌≡◌, sym, ap, ◌∙◌}
+use mathlib.Core.Path.{sym, ap, ◌∙◌}
 use Prim.Native.Nat.{ℕ, ◌*◌}
 use native.Mathlib.Omega.{arith}
-use lib.ListN.{length, take, drop}
+use lib.ListN.{drop}
 use lib.Seq.{length-take-le}
-use borrow.Author.Rules.{rules}
 use Rattle.common.specs.Sizes.{store_width}
 use Rattle.edge_c.proofs.Pages.{rows_within, front_numbers}
 use Rattle.edge_c.proofs.write.read_rows.Goals as goal
 
-pub overflow_mul-n : goal.overflow_mul-n
-overflow_mul-n c = search rules
-
 pub returns-then-s-n : goal.returns-then-s-n
 returns-then-s-n c = λ h e. absurd (omega (arith, c.if-s-n.true))
-
-pub overflow_mul-n-2 : goal.overflow_mul-n-2
-overflow_mul-n-2 c = search rules
 
 pub slice_bounds-read_numbers-end : goal.slice_bounds-read_numbers-end
 slice_bounds-read_numbers-end c = sym (let args = c.args in
@@ -28,12 +21,6 @@ slice_bounds-read_numbers-end-2 c = c.if-s-n.false
 
 pub slice_bounds-read_numbers-end-3 : goal.slice_bounds-read_numbers-end-3
 slice_bounds-read_numbers-end-3 c = sym (length-take-le (store_width * c.args.triples) c.args.s.now c.if-s-n.false)
-
-pub read_numbers-requires : goal.read_numbers-requires
-read_numbers-requires c = tt
-
-pub shape_of-s : goal.shape_of-s
-shape_of-s c = c.s-1.given.1
 
 pub returns : goal.returns
 returns c =

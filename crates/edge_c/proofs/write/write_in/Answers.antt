@@ -1,12 +1,6 @@
 -- `edge_c::write::write_in` meets its contract. Assumes nothing.
-use Rattle.edge_c.proofs.Forwarding.{table_enough, store_enough, Prefix, prefix, store_forwarded_both}
+use Rattle.edge_c.proofs.Forwarding.{table_enough, store_enough, prefix, store_forwarded_both}
 use Rattle.edge_c.proofs.write.write_in.Goals as goal
-
-pub how_many-k1-requires : goal.how_many-k1-requires
-how_many-k1-requires c = tt
-
-pub how_many-k2-requires : goal.how_many-k2-requires
-how_many-k2-requires c = tt
 
 pub slice_bounds-write_on-end : goal.slice_bounds-write_on-end
 slice_bounds-write_on-end c = (let enough = table_enough c.args.t.now c.requires.table_room in
@@ -28,17 +22,6 @@ pub write_on-requires : goal.write_on-requires
 write_on-requires c =
     let args = c.args in
     store_forwarded_both c.requires args.table.now args.store.now c.how_many-k1.ensures c.how_many-k2.ensures
-
-pub shape_of-t : goal.shape_of-t
-shape_of-t c =
-    c.t-1.given.1
-
-pub shape_of-s : goal.shape_of-s
-shape_of-s c =
-    c.s-1.given.1
-
-pub shape_of-page : goal.shape_of-page
-shape_of-page c = c.write_on.auto.page
 
 pub returns : goal.returns
 returns c = c.write_on.ensures

@@ -1,32 +1,13 @@
 -- `edge_c::write::write_on` meets its contract. Assumes nothing.
 use mathlib.Core.Path.{◌∙◌}
-use mathlib.Core.List.{List}
-use Prim.Native.Nat.{ℕ}
-use lib.ListN.{length}
-use Rattle.dictionary_layout.specs.Layout.{Dict}
 use Rattle.dictionary_layout.specs.Values.{contents}
-use Rattle.edge_c.proofs.Forwarding.{StoreForwarded, by_length, ReadTable, read_as}
+use Rattle.edge_c.proofs.Forwarding.{by_length, read_as}
 use Rattle.edge_c.proofs.Pages.{write_alike}
 use Rattle.edge_c.proofs.write.write_on.Goals as goal
-
-pub read_numbers-requires : goal.read_numbers-requires
-read_numbers-requires c = tt
 
 pub read_rows-requires : goal.read_rows-requires
 read_rows-requires c =
     c.requires.store_numbers
-
-pub write-requires : goal.write-requires
-write-requires c = tt
-
-pub shape_of-t : goal.shape_of-t
-shape_of-t c = c.read_numbers.auto.numbers
-
-pub shape_of-s : goal.shape_of-s
-shape_of-s c = c.read_rows.auto.s
-
-pub shape_of-page : goal.shape_of-page
-shape_of-page c = c.write.auto.page
 
 pub returns : goal.returns
 returns c =

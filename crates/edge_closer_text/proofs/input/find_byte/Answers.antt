@@ -1,29 +1,27 @@
 -- `input::find_byte` meets its contract. Assumes nothing.
-use Prim.Native.Nat.{◌-◌}
-use lib.ListN.{length}
-use borrow.Author.Rules.{rules}
-use Rattle.edge_closer_text.proofs.Parts.{Seeking, seeking_start, seeking_found, seeking_step, seeking_end}
+use Rattle.std.proofs.Common.{◌≡◌, ◌∙◌, drop, length, length-drop, unwrap_or, rules, tests, arith}
+use Rattle.std.proofs.lemmas.Iterator.{YieldsList-from_slice}
+use Rattle.std.proofs.lemmas.Iterator.Search.{position_from_yields_List}
+use Rattle.std.proofs.lemmas.List.{take_rest}
+use Rattle.edge_closer_text.specs.Input.{before}
+use Rattle.edge_closer_text.proofs.Parts.{found_place}
 use Rattle.edge_closer_text.proofs.input.find_byte.Goals as goal
+use Rattle.edge_closer_text.proofs.input.find_byte.Goals.{After-position}
 
-pub loop-i-init : goal.loop-i-init
-loop-i-init c = seeking_start c.args.bytes.now c.args.byte c.args.at c.requires
+place : (c : After-position) → unwrap_or c.position.result (length (drop c.args.at c.args.bytes.now))
+    ≡ length (before c.args.byte (drop c.args.at c.args.bytes.now))
+place c =
+    let rest = drop c.args.at c.args.bytes.now in
+    let is = c.iter.ensures.rest ∙ take_rest c.args.bytes.now c.args.at in
+    found_place c.args.byte rest c.position.result
+    (position_from_yields_List _ _ _ _ c.position.ensures.ran (YieldsList-from_slice rest is) (λ x b q k. search (rules, tests)))
 
-pub bounds-bytes-i : goal.bounds-bytes-i
-bounds-bytes-i c = search rules
+pub returns-in_err-place-clause-place : goal.returns-in_err-place-clause-place
+returns-in_err-place-clause-place c =
+    let p = rw c.in_err-place.was at (place (goal.at.returns-in_err-place-clause-place c).After-position) in
+    rw c.from_residual.ensures (omega (arith, length-drop c.args.at c.args.bytes.now))
 
-pub returns-then-bytes-i : goal.returns-then-bytes-i
-returns-then-bytes-i c =
-    seeking_found c.loop-i.invariant c.loop-i-test.true c.if-bytes-i.true
-
-pub overflow_add-i : goal.overflow_add-i
-overflow_add-i c = search rules
-
-pub loop-i-smaller : goal.loop-i-smaller
-loop-i-smaller c = search rules
-
-pub loop-i-preserved : goal.loop-i-preserved
-loop-i-preserved c =
-    seeking_step c.loop-i.invariant c.loop-i-test.true c.if-bytes-i.false
-
-pub returns : goal.returns
-returns c = seeking_end c.loop-i.invariant c.loop-i-test.false
+pub returns-clause-place : goal.returns-clause-place
+returns-clause-place c =
+    let p = rw c.in_ok-place.was at (place (goal.at.returns-clause-place c).After-position) in
+    omega arith

@@ -1,14 +1,8 @@
 -- `output::print_bad_line` meets its contract. Assumes nothing.
 use native.Mathlib.Omega.{arith}
-use lib.ListN.{length-set}
-use mathlib.Core.Path.{◌∙◌}
-use borrow.Author.Rules.{rules}
-use Rattle.edge_decimal.proofs.Writing.{wrote_length, wrote_byte, wrote_then}
+use Rattle.edge_decimal.proofs.Writing.{wrote_byte, wrote_then}
 use Rattle.edge_closer_text.proofs.Printing.{number_fits, byte_fits}
 use Rattle.edge_closer_text.proofs.output.print_bad_line.Goals as goal
-
-pub put_bytes-start-requires : goal.put_bytes-start-requires
-put_bytes-start-requires c = search rules
 
 pub put_number-end-requires : goal.put_number-end-requires
 put_number-end-requires c =
@@ -19,13 +13,6 @@ pub bounds-out-end : goal.bounds-out-end
 bounds-out-end c =
     byte_fits c.args.number c.ranges.number.fits c.put_bytes-start.ensures c.requires
     c.put_number-end.ensures
-
-pub overflow_add-result : goal.overflow_add-result
-overflow_add-result c = search rules
-
-pub shape_of-out : goal.shape_of-out
-shape_of-out c =
-    simp length-set (wrote_length c.put_number-end.ensures ∙ wrote_length c.put_bytes-start.ensures)
 
 pub returns : goal.returns
 returns c =

@@ -2,14 +2,7 @@
 use native.Mathlib.Omega.{arith}
 use lib.ListN.{length-set}
 use Rattle.ntriples_text.proofs.Stores.{angles_length, angle_room, put_angles}
-use borrow.Author.Rules.{rules}
 use Rattle.ntriples_text.proofs.literal.put_iri.Goals as goal
-
-pub bounds-page-at : goal.bounds-page-at
-bounds-page-at c = search rules
-
-pub overflow_add-at : goal.overflow_add-at
-overflow_add-at c = search rules
 
 pub put_part-n-requires : goal.put_part-n-requires
 put_part-n-requires c =
@@ -21,9 +14,6 @@ pub bounds-page-n : goal.bounds-page-n
 bounds-page-n c =
     let args = c.args in
     angle_room args.bytes.now args.page.now args.at c.requires c.put_part-n.ensures
-
-pub overflow_add-result : goal.overflow_add-result
-overflow_add-result c = search rules
 
 pub returns : goal.returns
 returns c =

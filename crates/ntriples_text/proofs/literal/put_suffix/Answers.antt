@@ -5,11 +5,7 @@ use native.Mathlib.Omega.{arith}
 use lib.ListN.{set, length-set}
 use Rattle.ntriples.specs.Grammar.{xsd_string}
 use Rattle.ntriples_text.proofs.Suffixes.{put_plain, datatype_room, put_datatype, tag_room, put_tag}
-use borrow.Author.Rules.{rules}
 use Rattle.ntriples_text.proofs.literal.put_suffix.Goals as goal
-
-pub same_bytes-requires : goal.same_bytes-requires
-same_bytes-requires c = search rules
 
 pub returns-then-same_bytes : goal.returns-then-same_bytes
 unfolding xsd_string
@@ -17,9 +13,6 @@ returns-then-same_bytes c =
     let args = c.args in
     let same = sym c.if-same_bytes.true ∙ c.same_bytes.ensures in
     put_plain args.d.now args.page.now args.at c.requires same
-
-pub has_colon-requires : goal.has_colon-requires
-has_colon-requires c = search rules
 
 pub bounds-page-at : goal.bounds-page-at
 unfolding xsd_string
@@ -30,9 +23,6 @@ bounds-page-at c =
     let room = datatype_room args.d.now args.page.now args.at c.requires other colon in
     omega (arith, room)
 
-pub overflow_add-page : goal.overflow_add-page
-overflow_add-page c = search rules
-
 pub bounds-page-at-then-has_colon : goal.bounds-page-at-then-has_colon
 unfolding xsd_string
 bounds-page-at-then-has_colon c =
@@ -41,9 +31,6 @@ bounds-page-at-then-has_colon c =
     let colon = sym c.if-has_colon.true ∙ c.has_colon.ensures in
     let room = datatype_room args.d.now args.page.now args.at c.requires other colon in
     omega (arith, room, length-set args.page.now args.at 94)
-
-pub overflow_add-at : goal.overflow_add-at
-overflow_add-at c = search rules
 
 pub put_iri-requires : goal.put_iri-requires
 unfolding xsd_string
@@ -74,9 +61,6 @@ bounds-page-at-2 c =
     let tag = sym c.if-has_colon.false ∙ c.has_colon.ensures in
     let room = tag_room args.d.now args.page.now args.at c.requires other tag in
     omega (arith, room)
-
-pub overflow_add-at-2 : goal.overflow_add-at-2
-overflow_add-at-2 c = search rules
 
 pub put_part-requires : goal.put_part-requires
 unfolding xsd_string

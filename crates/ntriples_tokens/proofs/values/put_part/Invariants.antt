@@ -1,11 +1,7 @@
-use Prim.Native.Nat.{◌-◌}
-use native.Mathlib.Omega.{arith}
-use borrow.Author.Rules.{rules}
-use Rattle.ntriples_tokens.proofs.Writing.{Putting, putting_start, putting_room, putting_step, putting_end}
+use Rattle.std.proofs.Common.{take}
+use Rattle.ntriples.specs.Utf8.{encode}
+use Rattle.ntriples_utf8.specs.Promises.{Wrote}
 use Rattle.ntriples_tokens.proofs.values.put_part.Given as goal
 
-abbrev pub invariant-loop-i : goal.invariant-loop-i
-invariant-loop-i l = Putting l.chars l.at l.end l.initial.out l.used l.out l.i l.n
-
-abbrev pub decreases-loop-i : goal.decreases-loop-i
-decreases-loop-i l = l.end - l.i
+abbrev pub invariant-loop-c : goal.invariant-loop-c
+invariant-loop-c l = Wrote l.initial.out l.used (encode (take l.c-index l.c-items)) l.out l.n

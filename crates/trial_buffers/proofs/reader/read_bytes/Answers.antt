@@ -1,57 +1,31 @@
 -- `trial_buffers::reader::read_bytes` meets its contract. Assumes nothing.
-use Rattle.std.proofs.Common.{◌≡◌, ◌-◌, ◌≤◌, Bool, ◌&&◌, length, ap, ◌∙◌, arith, rules}
-use Rattle.trial_buffers.specs.Reading.{cursor_after, number_after, is_byte, byte_of}
-use Rattle.common.proofs.Filling.{Filled, fill_start, fill_more, fill_end}
-use Rattle.trial_buffers.proofs.Fields.{cursor_start, cursor_more, value_next}
+use Rattle.std.proofs.Common.{◌≡◌, ◌∙◌, ap, arith, rules}
+use Rattle.std.proofs.lemmas.Grind.{common_steps}
+use Rattle.trial_buffers.specs.Reading.{is_byte, byte_of, number_after, read_of}
+use Rattle.trial_buffers.proofs.Fields.{cursor_none, cursor_good, cursor_bad, value_next, Byte, byte_read}
 use Rattle.trial_buffers.proofs.reader.read_bytes.Goals as goal
+use Rattle.trial_buffers.proofs.reader.read_bytes.Goals.{then-end, else-end}
 
-pub loop-i-init : goal.loop-i-init
-loop-i-init c = (fill_start _ _, cursor_start _ _ _, omega arith)
+pub loop-byte-init : goal.loop-byte-init
+loop-byte-init c = (cursor_none is_byte c.args.text.now c.args.from, λ k h. absurd (omega arith))
 
-pub read_number-read-requires : goal.read_number-read-requires
-read_number-read-requires c = search rules
-
-pub byte_of-byte-requires : goal.byte_of-byte-requires
-byte_of-byte-requires c = search rules
-
-pub bounds-row-i : goal.bounds-row-i
-bounds-row-i c = search rules
-
-pub both-requires : goal.both-requires
-both-requires c = search rules
-
-pub both-ok-requires : goal.both-ok-requires
-both-ok-requires c = search rules
-
-pub overflow_add-i : goal.overflow_add-i
-overflow_add-i c = search rules
-
-pub loop-i-smaller : goal.loop-i-smaller
-loop-i-smaller c = search rules
-
-pub loop-i-preserved : goal.loop-i-preserved
-loop-i-preserved c =
-    let read_number = c.read_number-read in
-    let loop = c.loop-i in
-    let args = c.args in (
-      fill_more loop.invariant.0 c.byte_of-byte.result.value c.loop-i-test.true
-          (c.byte_of-byte.ensures.0
-          ∙ ap byte_of (value_next is_byte args.text.now (record { at = args.from.at; ok = args.from.ok }) loop.i
-          loop.at loop.ok loop.invariant.1 read_number.result read_number.ensures)),
-      cursor_more is_byte args.text.now (record { at = args.from.at; ok = args.from.ok }) loop.i loop.at loop.ok
-          loop.invariant.1 read_number.result read_number.ensures c.both-ok.result
-          (c.both-ok.ensures
-          ∙ ap (λ (x : Bool). loop.ok && x)
-          (c.both.ensures ∙ ap (λ (x : Bool). read_number.result.ok && x) c.byte_of-byte.ensures.1)),
-      omega (arith, c.loop-i-test.true, loop.invariant.0.long),
-    )
-
-pub shape_of-row : goal.shape_of-row
-shape_of-row c = c.loop-i.invariant.0.long
-
-pub returns : goal.returns
-returns c =
-    let loop = c.loop-i in (
-      loop.invariant.1 ∙ ap (cursor_after is_byte _ _) (omega (arith, loop.invariant.2, loop.invariant.0.long, c.loop-i-test.false)),
-      fill_end loop.invariant.0 c.loop-i-test.false,
+pub loop-byte-preserved : goal.loop-byte-preserved
+loop-byte-preserved c =
+    let text = c.args.text.now in
+    let loop = c.loop-byte in
+    let i = loop.byte-index in
+    let read = read_of c.read_number-read.result in
+    let byte : Byte c.read_number-read.result.value c.and_then-value.result = search rules in
+    let b = byte_read _ _ byte in
+    let number = value_next is_byte text c.args.from loop.end i loop.invariant.0 read c.read_number-read.ensures in
+    let value : c.unwrap_or.result ≡ byte_of (number_after is_byte text c.args.from i) = c.unwrap_or.ensures ∙ b.1 ∙ ap byte_of number in (
+      elim c.if-end.branch [
+        | then-end w ↦
+            w.end-is
+            ∙ cursor_good is_byte text c.args.from loop.end i loop.invariant.0 read c.read_number-read.ensures w.if-end.true
+            (w.is_some.ensures ∙ b.0)
+        | else-end w ↦
+            w.end-is ∙ cursor_bad is_byte text c.args.from loop.end i loop.invariant.0 read c.read_number-read.ensures w.if-end.false
+      ],
+      grind (arith, common_steps),
     )

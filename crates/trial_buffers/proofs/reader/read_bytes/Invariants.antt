@@ -1,14 +1,9 @@
-use Rattle.std.proofs.Common.{◌≡◌, ◌-◌, ◌≤◌, Bool, ◌&&◌, length, ap, ◌∙◌, arith, rules}
+-- The loop of `trial_buffers::reader::read_bytes`: the places before `byte` are filled. Assumes nothing.
+use Rattle.std.proofs.Common.{ℕ, ◌≡◌, ◌<◌, get_or}
 use Rattle.trial_buffers.specs.Reading.{cursor_after, number_after, is_byte, byte_of}
-use Rattle.common.proofs.Filling.{Filled, fill_start, fill_more, fill_end}
-use Rattle.trial_buffers.proofs.Fields.{cursor_start, cursor_more, value_next}
 use Rattle.trial_buffers.proofs.reader.read_bytes.Given as goal
 
-abbrev pub invariant-loop-i : goal.invariant-loop-i
-invariant-loop-i l =
-    Filled (λ k. byte_of (number_after is_byte l.text (record { at = l.initial.at; ok = l.initial.ok }) k)) l.initial.row l.row l.i
-    × (record { at = l.at; ok = l.ok } ≡ cursor_after is_byte l.text (record { at = l.initial.at; ok = l.initial.ok }) l.i)
-    × (l.i ≤ length l.initial.row)
-
-abbrev pub decreases-loop-i : goal.decreases-loop-i
-decreases-loop-i l = length l.initial.row - l.i
+abbrev pub invariant-loop-byte : goal.invariant-loop-byte
+invariant-loop-byte l =
+    (l.end ≡ cursor_after is_byte l.text l.fn.from l.byte-index)
+    × ((k : ℕ) → k < l.byte-index → get_or l.row k 0 ≡ byte_of (number_after is_byte l.text l.fn.from k))

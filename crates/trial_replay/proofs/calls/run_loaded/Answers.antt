@@ -1,4 +1,5 @@
 -- `trial_replay::calls::run_loaded` meets its contract. Assumes nothing.
+use Rattle.std.proofs.Common.{rules}
 use Prim.Native.Nat.{ℕ}
 use mathlib.Core.Path.{◌∙◌}
 use lib.ListN.{length-replicate}
@@ -14,7 +15,7 @@ returns c =
     run_taken_is args.call (held m args.table.now args.arena.now) _ _ _
     (numbers_taken m load_cells load_room (c.take_numbers.auto.row ∙ length-replicate {A = ℕ} load_room 0)
     c.take_numbers.ensures)
-    (numbers_taken m store_cells _ c.store-1.given c.take_numbers-2.ensures)
-    (numbers_taken m findings_cells _ c.findings-1.given c.take_numbers-3.ensures)
-    (numbers_taken m work_cells _ c.work-1.given c.take_numbers-4.ensures)
+    (numbers_taken m store_cells _ (search rules) c.take_numbers-2.ensures)
+    (numbers_taken m findings_cells _ (search rules) c.take_numbers-3.ensures)
+    (numbers_taken m work_cells _ (search rules) c.take_numbers-4.ensures)
     c.run_lent.ensures

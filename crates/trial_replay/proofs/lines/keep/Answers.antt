@@ -14,10 +14,10 @@ returns-then-line-eq5 c =
           (numbers_taken args.memory.now 0 _ taken.auto.row taken.ensures),
     )
 
-pub returns : goal.returns
-returns c =
-    let expected = c.take_numbers-3 in
-    let memory = c.take_numbers-2 in
+pub returns-else-line-eq5 : goal.returns-else-line-eq5
+returns-else-line-eq5 c =
+    let memory = c.take_numbers-else-line-eq5 in
+    let expected = c.take_numbers-else-line-eq5-2 in
     let args = c.args in (
       refl,
       restores args.line (memories args.memory.now args.expected.now args.saved.now) c.if-line-eq5.false

@@ -1,19 +1,11 @@
 -- `trial_start::starts::is_arena_kept` meets its contract. Assumes nothing.
-use native.Mathlib.Omega.{arith}
-use borrow.Author.Count.{below_more}
-use Rattle.trial_start.proofs.Marks.{not_kept, all_kept}
+use Rattle.std.proofs.Common.{◌≡◌, true, ◌↔◌, EachIndex, get_or, rules}
+use Rattle.trial_start.specs.Starts.{mark}
+use Rattle.trial_start.proofs.Marks.{kept_each}
 use Rattle.trial_start.proofs.starts.is_arena_kept.Goals as goal
 
-pub loop-i-init : goal.loop-i-init
-loop-i-init c = λ k h. absurd (omega arith)
-
-pub returns-then-arena-i-ne-MARK_BYTE : goal.returns-then-arena-i-ne-MARK_BYTE
-returns-then-arena-i-ne-MARK_BYTE c =
-    not_kept c.args.arena.now c.loop-i.i (omega arith) c.if-arena-i-ne-MARK_BYTE.true
-
-pub loop-i-preserved : goal.loop-i-preserved
-loop-i-preserved c =
-    below_more _ _ c.loop-i.invariant c.if-arena-i-ne-MARK_BYTE.false
-
 pub returns : goal.returns
-returns c = all_kept c.args.arena.now (λ k h. c.loop-i.invariant k (omega arith))
+returns c =
+    let arena = c.args.arena.now in
+    let each : c.all.result ≡ true ↔ EachIndex arena (λ k. get_or arena k 0 ≡ mark) = search rules in
+    kept_each arena _ each

@@ -1,7 +1,10 @@
 -- `trial_start::starts::is_found` meets its contract. Assumes nothing.
+use Rattle.std.proofs.Common.{◌≡◌, true, ◌↔◌, rules}
+use Rattle.trial_start.specs.Starts.{b0}
 use Rattle.trial_start.proofs.Saying.{found}
 use Rattle.trial_start.proofs.starts.is_found.Goals as goal
 
-pub returns : goal.returns
-returns c =
-    found c.lookup-part.ensures.answers c.same.ensures c.both.ensures c.both-2.ensures
+pub returns-then-kind-eq2 : goal.returns-then-kind-eq2
+returns-then-kind-eq2 c =
+    let same : c.eq.result ≡ true ↔ (c.lookup-part.result.now ≡ b0) = search rules in
+    found c.lookup-part.ensures.answers c.if-kind-eq2.true.0 c.if-kind-eq2.true.1 same

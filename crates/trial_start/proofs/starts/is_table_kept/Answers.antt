@@ -1,19 +1,11 @@
 -- `trial_start::starts::is_table_kept` meets its contract. Assumes nothing.
-use native.Mathlib.Omega.{arith}
-use borrow.Author.Count.{below_more}
-use Rattle.trial_start.proofs.Marks.{not_kept, all_kept}
+use Rattle.std.proofs.Common.{◌≡◌, true, ◌↔◌, EachIndex, get_or, rules}
+use Rattle.trial_start.specs.Starts.{mark}
+use Rattle.trial_start.proofs.Marks.{kept_each}
 use Rattle.trial_start.proofs.starts.is_table_kept.Goals as goal
 
-pub loop-i-init : goal.loop-i-init
-loop-i-init c = λ k h. absurd (omega arith)
-
-pub returns-then-table-i-ne-MARK : goal.returns-then-table-i-ne-MARK
-returns-then-table-i-ne-MARK c =
-    not_kept c.args.table.now c.loop-i.i (omega arith) c.if-table-i-ne-MARK.true
-
-pub loop-i-preserved : goal.loop-i-preserved
-loop-i-preserved c =
-    below_more _ _ c.loop-i.invariant c.if-table-i-ne-MARK.false
-
 pub returns : goal.returns
-returns c = all_kept c.args.table.now (λ k h. c.loop-i.invariant k (omega arith))
+returns c =
+    let table = c.args.table.now in
+    let each : c.all.result ≡ true ↔ EachIndex table (λ k. get_or table k 0 ≡ mark) = search rules in
+    kept_each table _ each
