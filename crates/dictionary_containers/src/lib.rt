@@ -62,8 +62,11 @@ fn in_range(digits: &[u8]) -> bool
 fn is_number(bytes: &[u8]) -> bool
     ensures { result ≡ is_number_by_digits bytes.now }
 {
+    if !all_digits(bytes) {
+        return false;
+    }
     let zeros = leading_zeros(bytes);
-    all_digits(bytes) && in_range(&bytes[zeros..])
+    in_range(&bytes[zeros..])
 }
 
 // Whether a term is a container property.

@@ -39,5 +39,7 @@ pub fn copy_at(dst: &mut [u8], at: usize, src: &[u8])
     requires { at + length src.now ≤ length dst.old }
     ensures { dst.new ≡ paste dst.old at src.now (length src.now) }
 {
-    dst[at..at + src.len()].copy_from_slice(src);
+    for (i, b) in src.iter().enumerate() {
+        dst[at + i] = *b;
+    }
 }

@@ -7,20 +7,20 @@ use native.Mathlib.Omega.{arith}
 use lib.Dec.{eqb}
 use lib.ListN.{length, get_or, take, drop, length-append, drop_of_length-le}
 use lib.Seq.{drop-cons}
-use Rattle.std.specs.Prelude.{Option as Maybe, Some, None, is_some, true, false}
+use Rattle.std.specs.Prelude.{Option as Maybe, Some, None, is_some, unwrap_or, true, false}
 use Rattle.ntriples.proofs.Tests.{if_ind}
 use Rattle.ntriples_utf8.specs.Promises.{Wrote}
 use Rattle.ntriples_canonical.specs.Writing.{escaped, escape_all}
 use Rattle.ntriples_text.specs.Promises.{escape_by}
 
 -- A CHARACTER, by the letter of its escape: in two,
-pub in_two : (r : Maybe ℕ) (b : ℕ) → escape_by r b ≡ escaped b → is_some r ≡ true → length (escaped b) ≡ 2
+pub in_two : (r : Maybe ℕ) (b : ℕ) → escape_by r b ≡ escaped b → is_some r ≡ true → escaped b ≡ 92 ∷ unwrap_or r 0 ∷ []
 in_two None b e h = cc
-in_two (Some l) b e h = sym (ap length e)
+in_two (Some l) b e h = sym e
 
 -- or as it is
-pub as_it_is : (r : Maybe ℕ) (b : ℕ) → escape_by r b ≡ escaped b → is_some r ≡ false → length (escaped b) ≡ 1
-as_it_is None b e h = sym (ap length e)
+pub as_it_is : (r : Maybe ℕ) (b : ℕ) → escape_by r b ≡ escaped b → is_some r ≡ false → escaped b ≡ b ∷ []
+as_it_is None b e h = sym e
 as_it_is (Some l) b e h = cc
 
 -- two at most for each

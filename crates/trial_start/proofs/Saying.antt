@@ -1,12 +1,12 @@
 -- What is said of a start, by the answers of start, put and lookup. Assumes nothing.
 use mathlib.Core.Path.{◌≡◌, refl, ◌∙◌}
-use mathlib.Core.Bool.{Bool, true, false}
+use mathlib.Core.Bool.{Bool, true, false, ◌&&◌}
 use mathlib.Core.List.{List}
 use Prim.Native.Nat.{ℕ, zero, suc, ◌≤◌}
 use native.Mathlib.Omega.{arith}
-use lib.Dec.{ltb}
+use lib.Dec.{eqb, ltb}
 use lib.ListN.{take, replicate, length-replicate}
-use borrow.Author.Tests.{ltb-false, eq-eqb}
+use borrow.Author.Tests.{ltb-false}
 use Rattle.common.specs.Triples.{if}
 use Rattle.dictionary_layout.specs.Dictionary.{LookupAnswer}
 use Rattle.dictionary_layout.specs.Calls.{start_gives}
@@ -15,11 +15,8 @@ use Rattle.trial_start.proofs.Marks.{same_row_test}
 use Rattle.trial_start.specs.Starts.{mark, b0, is_b0, said, said_in, said_of}
 
 -- the blank node is found
-pub found : {l g : LookupAnswer} → l ≡ g → {b : Bool} → l.number ≡ 0 → l.kind ≡ 2 → (b ≡ true ↔ (l.part ≡ b0)) → b ≡ is_b0 g
-found {l = l} e {b} n k f =
-    let q = eq-eqb l.number 0 n in
-    let p = eq-eqb l.kind 2 k in
-    rw (← e, q, p) (same_row_test b f)
+pub found : {l g : LookupAnswer} → l ≡ g → {b : Bool} → (b ≡ true ↔ (l.part ≡ b0)) → (eqb l.number 0 && (eqb l.kind 2 && b)) ≡ is_b0 g
+found e {b} f = rw (← e, ← same_row_test b f) refl
 
 -- parts of buffers of marks
 take_replicate : (t m : ℕ) → t ≤ m → take t (replicate m mark) ≡ replicate t mark
